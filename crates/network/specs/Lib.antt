@@ -1,0 +1,5 @@
+pub mod Refusals
+pub mod Net
+pub mod Bits
+pub mod Orders
+pub mod Laws

@@ -1,0 +1,15 @@
+//! Networks of gauge stations: refusals, the questions that a network answers,
+//! and the packed sheets and neighbour lists that networks are read from.
+mod net;
+mod refusal;
+
+ghost use Rattle.network.specs.Laws.{Next-is-smallest};
+pub use net::Network;
+pub use refusal::Refusal;
+
+/// The next coupled station is the smallest one not below the given number.
+pub fn next_is_smallest() -> u8
+    ensures { λ _. ⌜ Next-is-smallest ⌝ }
+{
+    0
+}
