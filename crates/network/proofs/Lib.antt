@@ -1,2 +1,4 @@
 pub mod Bits
+pub mod Faults
+pub mod Marks
 pub mod Nexts

@@ -8,10 +8,14 @@ use Rattle.std.specs.declared.option.Option.{Option}
 use Rattle.std.specs.declared.option.Option.the-variants.{None}
 use Rattle.network.specs.Refusals.{Fault, refuse, firstFault}
 
--- v is among the first k numbers
-unfoldable pub among : List ℕ → ℕ → ℕ → Bool
-among xs zero v = false
-among xs (suc k) v = among xs k v || eqb (getD xs k 0) v
+-- v is one of the first k values
+unfoldable pub namedBefore : (ℕ → ℕ) → ℕ → ℕ → Bool
+namedBefore value zero v = false
+namedBefore value (suc k) v = namedBefore value k v || eqb (value k) v
+
+-- v is among the first k numbers of the list
+abbrev pub among : List ℕ → ℕ → ℕ → Bool
+among xs = namedBefore (λ k. getD xs k 0)
 
 -- the number at k is no station, or was named before
 unfoldable pub stationFault : List ℕ → ℕ → ℕ → Option Fault

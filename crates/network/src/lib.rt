@@ -1,10 +1,12 @@
 //! Networks of gauge stations: refusals, the questions that a network answers,
 //! and the packed sheets and neighbour lists that networks are read from.
 mod net;
+mod orders;
 mod refusal;
 
 ghost use Rattle.network.specs.Laws.{Next-is-smallest};
 pub use net::Network;
+pub use orders::check_order;
 pub use refusal::Refusal;
 
 /// The next coupled station is the smallest one not below the given number.
