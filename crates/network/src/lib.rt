@@ -1,5 +1,6 @@
 //! Networks of gauge stations: refusals, the questions that a network answers,
 //! and the packed sheets and neighbour lists that networks are read from.
+mod bit_fields;
 mod net;
 mod orders;
 mod refusal;
