@@ -1,6 +1,13 @@
 pub mod Bits
 pub mod Faults
 pub mod Fields
+pub mod Found
 pub mod Marks
 pub mod Nexts
+pub mod Places
+pub mod Searches
+pub mod Stages
+pub mod Standing
+pub mod Trips
+pub mod Wells
 pub mod Windows

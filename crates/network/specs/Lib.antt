@@ -3,4 +3,7 @@ pub mod Net
 pub mod Bits
 pub mod Fields
 pub mod Orders
+pub mod Sheets
+pub mod Decode
+pub mod Encode
 pub mod Laws

@@ -5,7 +5,7 @@ mod net;
 mod orders;
 mod refusal;
 
-ghost use Rattle.network.specs.Laws.{Next-is-smallest};
+ghost use Rattle.network.specs.Laws.{Next-is-smallest, Written-reads, Read-writes, Read-well};
 pub use net::Network;
 pub use orders::check_order;
 pub use refusal::Refusal;
@@ -13,6 +13,16 @@ pub use refusal::Refusal;
 /// The next coupled station is the smallest one not below the given number.
 pub fn next_is_smallest() -> u8
     ensures { λ _. ⌜ Next-is-smallest ⌝ }
+{
+    0
+}
+
+/// A sheet that is written reads as itself, one that is read is written as the same bytes,
+/// and what is read is a network and one of its orders.
+pub fn sheets_go_round() -> u8
+    ensures written { λ _. ⌜ Written-reads ⌝ }
+    ensures read { λ _. ⌜ Read-writes ⌝ }
+    ensures well { λ _. ⌜ Read-well ⌝ }
 {
     0
 }
