@@ -189,6 +189,23 @@ field-three bs j h m l =
       ap (λ (x : ℕ). field bs x 8) p2,
     )
 
+-- four bytes are a field of 32 bits, and their parts are fields
+pub field-four : (bs : List ℕ) → getD bs 0 0 < 2 ^ 8 → getD bs 1 0 < 2 ^ 8 → getD bs 2 0 < 2 ^ 8 → getD bs 3 0 < 2 ^ 8
+    → field bs 0 32 ≡ getD bs 0 0 * 16777216 + getD bs 1 0 * 65536 + getD bs 2 0 * 256 + getD bs 3 0
+field-four bs a b c d =
+    omega (arith, field-append bs 0 24 8, field-three bs 0 a b c, field-byte bs 3 d)
+
+-- the three fields of a header, from its four bytes
+pub header-fields : (bs : List ℕ) (word : ℕ) → getD bs 0 0 < 2 ^ 8 → getD bs 1 0 < 2 ^ 8 → getD bs 2 0 < 2 ^ 8 → getD bs 3 0 < 2 ^ 8
+    → word ≡ getD bs 0 0 * 16777216 + getD bs 1 0 * 65536 + getD bs 2 0 * 256 + getD bs 3 0
+    → (word / 134217728 ≡ field bs 0 5) × (word / 131072 % 1024 ≡ field bs 5 10) × (word % 131072 ≡ field bs 15 17)
+header-fields bs word a b c d e =
+    let w : word ≡ field bs 0 32 = e ∙ sym (field-four bs a b c d) in
+    let kind : word / 134217728 % 32 ≡ field bs 0 5 = ap (λ (x : ℕ). x / 134217728 % 32) w ∙ field-part bs 0 0 5 27 in
+    ( omega (arith, field-lt bs 0 32)
+    , ap (λ (x : ℕ). x / 131072 % 1024) w ∙ field-part bs 0 5 10 17
+    , omega (arith, ap (λ (x : ℕ). x / 1 % 131072) w, field-part bs 0 15 17 0) )
+
 -- a field cut out of the window of three bytes that holds it
 pub field-in-window : (bs : List ℕ) (p w x : ℕ) → w ≤ 17 → x ≡ field bs (8 * (p / 8)) 24
     → bitAnd (x / 2 ^ (24 - p % 8 - w)) ((1 * 2 ^ w) % 2 ^ 32 - 1) ≡ field bs p w

@@ -17,7 +17,8 @@ use Rattle.std.proofs.shelf.Ways.{tells}
 use Rattle.network.proofs.Faults.{cond-none, cond-none-else, orElse-none, each-none}
 use Rattle.network.proofs.Fields.{field-lt}
 use Rattle.network.proofs.Places.{width-few}
-use Rattle.network.specs.Decode.{placeOf, valueAt, headerFault, pairFault, placedFault, endFault, bodyFault, fault, sheetOf, faultless, Stands, keyAt}
+use Rattle.network.specs.Decode.{placeOf, valueAt, headerFault, pairFault, placedFault, endFault, bodyFault, fault, sheetOf, faultless, Stands}
+use Rattle.network.specs.Parts.{keyAt}
 use Rattle.network.specs.Fields.{field, isIn}
 use Rattle.network.specs.Refusals.{Fault, orElse, firstFault}
 use Rattle.network.specs.Sheets.{Sheet, width, before, hasPair}

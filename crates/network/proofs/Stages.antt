@@ -12,25 +12,31 @@ use Rattle.std.specs.declared.result.Result.{Result}
 use Rattle.std.specs.declared.result.Result.the-variants.{Ok, Err}
 use Rattle.std.proofs.shelf.Tests.{cond-true, cond-false, lt-ltb, le-ltb}
 use Rattle.network.proofs.Faults.{orElse-some, orElse-past, unless-err, unless-ok}
-use Rattle.network.specs.Decode.{placeOf, headerFault, pairFault, placedFault, endFault, bodyFault, fault, sheetOf, decode, headOf, sizesOf, faultless, Stands, fitting}
+use Rattle.network.specs.Decode.{placeOf, headerFault, pairFault, placedFault, endFault, bodyFault, fault, sheetOf, decode, faultless, Stands, fitting}
+use Rattle.network.specs.declared.sheets.Header.{Header}
+use Rattle.network.specs.Parts.{headerIn, headOf, sizesOf}
 use Rattle.network.specs.Fields.{field}
 use Rattle.network.specs.Refusals.{Fault, at, orElse, firstFault, unless}
 use Rattle.network.specs.Sheets.{Sheet, width}
 
 pub sizes-err : (bs : List ℕ) (e : Fault) → fault bs ≡ Some e → Err e ≡ sizesOf bs
-sizes-err bs e h = sym (ap (λ o. unless o (field bs 5 10, field bs 15 17)) h)
+sizes-err bs e h = sym (ap (λ o. unless o (headerIn bs)) h)
 
 pub head-err : (bs : List ℕ) (e : Fault) → Err e ≡ headOf bs → fault bs ≡ Some e
 unfolding fault
-head-err bs e h = orElse-some (headerFault bs) _ e (unless-err (headerFault bs) (field bs 5 10, field bs 15 17) e h)
+head-err bs e h = orElse-some (headerFault bs) _ e (unless-err (headerFault bs) (headerIn bs) e h)
 
-pub head-ok : (bs : List ℕ) (n m : ℕ) → Ok (n, m) ≡ headOf bs → (fault bs ≡ bodyFault bs n m) × (n ≡ field bs 5 10) × (m ≡ field bs 15 17)
+-- what the header counted
+counted : (bs : List ℕ) (p : Header) (o : Option Fault) → Ok p ≡ unless o (headerIn bs) → (o ≡ None) × (p .stations ≡ field bs 5 10) × (p .couplings ≡ field bs 15 17)
+counted bs p o h =
+    let got = unless-ok o (headerIn bs) p h in
+    (got .0, ap (λ (x : Header). x .stations) (got .1), ap (λ (x : Header). x .couplings) (got .1))
+
+pub head-ok : (bs : List ℕ) (p : Header) → Ok p ≡ headOf bs → fault bs ≡ bodyFault bs (p .stations) (p .couplings)
 unfolding fault
-head-ok bs n m h =
-    let got = unless-ok (headerFault bs) (field bs 5 10, field bs 15 17) (n, m) h in
-    let a : n ≡ field bs 5 10 = ap (λ (p : ℕ × ℕ). p .0) (got .1) in
-    let b : m ≡ field bs 15 17 = ap (λ (p : ℕ × ℕ). p .1) (got .1) in
-    (orElse-past (headerFault bs) _ (got .0) ∙ ap₂ (bodyFault bs) (sym a) (sym b), a, b)
+head-ok bs p h =
+    let got = counted bs p (headerFault bs) h in
+    orElse-past (headerFault bs) _ (got .0) ∙ ap₂ (bodyFault bs) (sym (got .1)) (sym (got .2))
 
 pub body-pairs : (bs : List ℕ) (n m w : ℕ) (e : Fault) → w ≡ width n → Some e ≡ firstFault (pairFault bs n w) m → bodyFault bs n m ≡ Some e
 unfolding bodyFault
@@ -44,10 +50,11 @@ body-order bs n m w is h =
     orElse-past _ _ (ap (λ (x : ℕ). firstFault (pairFault bs n x) m) (sym is) ∙ sym h)
     ∙ ap (λ (x : ℕ). orElse (firstFault (placedFault bs n x (2 * m)) n) (endFault bs (placeOf x (2 * m + n)))) (sym is)
 
-pub sizes-ok : (bs : List ℕ) (n m : ℕ) → fault bs ≡ None → n ≡ field bs 5 10 → m ≡ field bs 15 17 → Ok (n, m) ≡ sizesOf bs
-sizes-ok bs n m h a b =
-    let make : ℕ → ℕ → Result (ℕ × ℕ) Fault = λ x y. Ok (x, y) in
-    ap₂ make a b ∙ sym (ap (λ o. unless o (field bs 5 10, field bs 15 17)) h)
+pub sizes-ok : (bs : List ℕ) (p : Header) → Ok p ≡ headOf bs → fault bs ≡ None → Ok p ≡ sizesOf bs
+sizes-ok bs p h none =
+    let got = unless-ok (headerFault bs) (headerIn bs) p h in
+    let make : Header → Result Header Fault = λ x. Ok x in
+    ap make (got .1) ∙ sym (ap (λ o. unless o (headerIn bs)) none)
 
 -- ---- what the sizes say of the whole
 
@@ -55,26 +62,26 @@ pub decode-err : (bs : List ℕ) (e : Fault) → Err e ≡ sizesOf bs → decode
 unfolding decode
 decode-err bs e h = ap (λ o. unless o (sheetOf bs (field bs 5 10) (field bs 15 17))) (unless-err (fault bs) _ e h)
 
-pub decode-ok : (bs : List ℕ) (n m : ℕ) → Ok (n, m) ≡ sizesOf bs → decode bs ≡ Ok (sheetOf bs n m)
+pub decode-ok : (bs : List ℕ) (p : Header) → Ok p ≡ sizesOf bs → decode bs ≡ Ok (sheetOf bs (p .stations) (p .couplings))
 unfolding decode
-decode-ok bs n m h =
-    let got = unless-ok (fault bs) (field bs 5 10, field bs 15 17) (n, m) h in
-    ap₂ unless (got .0) (ap₂ (sheetOf bs) (sym (ap (λ (p : ℕ × ℕ). p .0) (got .1))) (sym (ap (λ (p : ℕ × ℕ). p .1) (got .1))))
+decode-ok bs p h =
+    let got = counted bs p (fault bs) h in
+    ap₂ unless (got .0) (ap₂ (sheetOf bs) (sym (got .1)) (sym (got .2)))
 
-pub stands : (bs : List ℕ) (n m : ℕ) → Ok (n, m) ≡ sizesOf bs → Stands bs n m
-stands bs n m h =
-    let got = unless-ok (fault bs) (field bs 5 10, field bs 15 17) (n, m) h in
-    (ap faultless (got .0), sym (ap (λ (p : ℕ × ℕ). p .0) (got .1)), sym (ap (λ (p : ℕ × ℕ). p .1) (got .1)))
+pub stands : (bs : List ℕ) (p : Header) → Ok p ≡ sizesOf bs → Stands bs (p .stations) (p .couplings)
+stands bs p h =
+    let got = counted bs p (fault bs) h in
+    (ap faultless (got .0), sym (got .1), sym (got .2))
 
 -- ---- an order that fits the list, or not
 
 pub fit-err : (bs : List ℕ) (l : ℕ) (e : Fault) → Err e ≡ sizesOf bs → fitting (decode bs) l ≡ Err e
 fit-err bs l e h = ap (λ x. fitting x l) (decode-err bs e h)
 
-pub fit-short : (bs : List ℕ) (l n m : ℕ) → Ok (n, m) ≡ sizesOf bs → l < n → fitting (decode bs) l ≡ Err (at 16 n)
+pub fit-short : (bs : List ℕ) (l : ℕ) (p : Header) → Ok p ≡ sizesOf bs → l < p .stations → fitting (decode bs) l ≡ Err (at 16 (p .stations))
 unfolding sheetOf
-fit-short bs l n m h lt = ap (λ x. fitting x l) (decode-ok bs n m h) ∙ cond-true _ _ _ (lt-ltb l n lt)
+fit-short bs l p h lt = ap (λ x. fitting x l) (decode-ok bs p h) ∙ cond-true _ _ _ (lt-ltb l (p .stations) lt)
 
-pub fit-ok : (bs : List ℕ) (l n m : ℕ) → Ok (n, m) ≡ sizesOf bs → n ≤ l → fitting (decode bs) l ≡ Ok (sheetOf bs n m)
+pub fit-ok : (bs : List ℕ) (l : ℕ) (p : Header) → Ok p ≡ sizesOf bs → p .stations ≤ l → fitting (decode bs) l ≡ Ok (sheetOf bs (p .stations) (p .couplings))
 unfolding sheetOf
-fit-ok bs l n m h le = ap (λ x. fitting x l) (decode-ok bs n m h) ∙ cond-false _ _ _ (le-ltb l n le)
+fit-ok bs l p h le = ap (λ x. fitting x l) (decode-ok bs p h) ∙ cond-false _ _ _ (le-ltb l (p .stations) le)

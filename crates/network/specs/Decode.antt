@@ -109,21 +109,3 @@ faultless None = true
 
 abbrev pub Stands : List ℕ → ℕ → ℕ → Type 0
 Stands bs n m = (faultless (fault bs) ≡ true) × (field bs 5 10 ≡ n) × (field bs 15 17 ≡ m)
-
--- ---- what the parts of a reading answer
-
--- size and number of couplings, by the header alone
-abbrev pub headOf : List ℕ → Result (ℕ × ℕ) Fault
-headOf bs = unless (headerFault bs) (field bs 5 10, field bs 15 17)
-
--- the coupling k
-abbrev pub pairOf : List ℕ → ℕ → ℕ → ℕ → Result (ℕ × ℕ) Fault
-pairOf bs n w k = unless (pairFault bs n w k) (valueAt bs w (2 * k), valueAt bs w (2 * k + 1))
-
--- size and number of couplings of a whole sheet
-abbrev pub sizesOf : List ℕ → Result (ℕ × ℕ) Fault
-sizesOf bs = unless (fault bs) (field bs 5 10, field bs 15 17)
-
--- the coupling k as one number, which rises with k
-unfoldable pub keyAt : List ℕ → ℕ → ℕ → ℕ
-keyAt bs w k = valueAt bs w (2 * k) * 512 + valueAt bs w (2 * k + 1)

@@ -6,4 +6,5 @@ pub mod Orders
 pub mod Sheets
 pub mod Decode
 pub mod Encode
+pub mod Parts
 pub mod Laws

@@ -1,0 +1,59 @@
+//! The checks of a sheet, in their order: header, couplings, order, end.
+//! Each is one pass over its part, and answers the first fault there.
+ghost use mathlib.Core.Path.{_≡_};
+ghost use Prim.Native.Nat.{ℕ, _+_, _*_, _<_, _≤_, _^_, _-_};
+ghost use denote.Ref.{now};
+ghost use Rattle.std.specs.Results.{Cases};
+ghost use Rattle.network.specs.Decode.{placeOf, valueAt, pairFault, placedFault, endFault};
+ghost use Rattle.network.specs.Parts.{headOf, pairOf, sizesOf};
+ghost use Rattle.network.specs.Refusals.{outcome, finding, firstFault, unless};
+ghost use Rattle.network.specs.Sheets.{width, before};
+use crate::bit_fields::BitReader;
+use crate::bit_fields::field_of;
+use crate::orders::no_marks;
+use crate::refusal::Refusal;
+use crate::sheets::Header;
+
+// The width of a station's field: the smallest of 1 to 9 bits that has a number for each station.
+pub(crate) fn width_of(stations: u32) -> usize
+    ensures value { λ r. ⌜ r ≡ width stations ⌝ }
+    ensures small { λ r. ⌜ r ≤ 9 ⌝ }
+{
+    let mut w = 9;
+    while w > 1 && stations <= 1 << (w - 1) {
+        w -= 1;
+    }
+    w
+}
+
+// The first bit of the station `i` behind the header.
+pub(crate) fn place_of(w: usize, i: u32) -> usize
+    requires { ⌜ w ≤ 9 ⌝ ∗ ⌜ i < 2 ^ 20 ⌝ }
+    ensures value { λ r. ⌜ r ≡ placeOf w i ⌝ }
+    ensures small { λ r. ⌜ r ≤ 32 + 9 * i ⌝ }
+{
+    32 + w * i as usize
+}
+
+// The header: its four bytes hold kind, size and number of couplings.
+fn header(sheet: &[u8]) -> Result<Header, Refusal>
+    ensures value { λ r. ⌜ outcome r ≡ headOf (now (sheet .entry)) ⌝ }
+    ensures small { λ r. ⌜ Cases r (λ h. (1 ≤ h .stations) × (h .stations ≤ 512) × (h .couplings < 2 ^ 17)) (λ _. Unit {0}) ⌝ }
+{
+    let [first, second, third, fourth, ..] = sheet else {
+        return Err(Refusal::NotWhole(0));
+    };
+    let word = *first as u32 * 16777216 + *second as u32 * 65536 + *third as u32 * 256 + *fourth as u32;
+    if word / 134217728 != 1 {
+        return Err(Refusal::WrongKind);
+    }
+    let stations = word / 131072 % 1024;
+    if stations < 1 || stations > 512 {
+        return Err(Refusal::SizeOutOfRange);
+    }
+    let couplings = word % 131072;
+    if couplings > stations * (stations - 1) / 2 {
+        return Err(Refusal::TooManyCouplings);
+    }
+    Ok(Header { stations, couplings })
+}
