@@ -8,6 +8,7 @@ pub mod Places
 pub mod Searches
 pub mod Stages
 pub mod Standing
+pub mod Takes
 pub mod Trips
 pub mod Wells
 pub mod Windows

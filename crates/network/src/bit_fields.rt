@@ -14,8 +14,8 @@ use crate::refusal::Refusal;
 /// Reads fields from a bit place on.
 #[derive(Drop)]
 pub(crate) struct BitReader<'a> {
-    bytes: &'a [u8],
-    at: usize,
+    pub(crate) bytes: &'a [u8],
+    pub(crate) at: usize,
 }
 
 /// Writes fields from a bit place on.

@@ -57,3 +57,33 @@ fn header(sheet: &[u8]) -> Result<Header, Refusal>
     }
     Ok(Header { stations, couplings })
 }
+
+// Whether the pair `(a, b)` comes before the pair `(c, d)`.
+fn comes_before(a: u32, b: u32, c: u32, d: u32) -> bool
+    ensures { λ r. ⌜ r ≡ before a b c d ⌝ }
+{
+    a < c || a == c && b < d
+}
+
+// The coupling `k`, which is next, after the coupling `last`.
+fn next_pair(reader: &mut BitReader<'_>, n: u32, w: usize, k: u32, last: (u32, u32)) -> Result<(u32, u32), Refusal>
+    requires width { ⌜ w ≤ 9 ⌝ }
+    requires place { ⌜ now reader .at ≡ placeOf w (2 * k) ⌝ }
+    requires small { ⌜ now reader .at < 2 ^ 31 ⌝ }
+    requires larger { ⌜ (0 < k → last .0 ≡ valueAt (now (now reader .bytes)) w (2 * k - 2)) ⌝ }
+    requires smaller { ⌜ (0 < k → last .1 ≡ valueAt (now (now reader .bytes)) w (2 * k - 1)) ⌝ }
+    ensures value { λ r. ⌜ outcome r ≡ pairOf (now (now (reader .entry) .bytes)) n w k ⌝ }
+    ensures place { λ r. ⌜ Cases r (λ _. now (reader .exit) .at ≡ now (reader .entry) .at + w + w) (λ _. Unit {0}) ⌝ }
+    ensures bytes { λ _. ⌜ now (now (reader .exit) .bytes) ≡ now (now (reader .entry) .bytes) ⌝ }
+{
+    let at = reader.at;
+    let larger = reader.take(w)?;
+    let smaller = reader.take(w)?;
+    if larger >= n || smaller >= larger {
+        return Err(Refusal::NoPair(at));
+    }
+    if k > 0 && !comes_before(last.0, last.1, larger, smaller) {
+        return Err(Refusal::PairNotRising(at));
+    }
+    Ok((larger, smaller))
+}
