@@ -201,10 +201,11 @@ pub header-fields : (bs : List ℕ) (word : ℕ) → getD bs 0 0 < 2 ^ 8 → get
     → (word / 134217728 ≡ field bs 0 5) × (word / 131072 % 1024 ≡ field bs 5 10) × (word % 131072 ≡ field bs 15 17)
 header-fields bs word a b c d e =
     let w : word ≡ field bs 0 32 = e ∙ sym (field-four bs a b c d) in
-    let kind : word / 134217728 % 32 ≡ field bs 0 5 = ap (λ (x : ℕ). x / 134217728 % 32) w ∙ field-part bs 0 0 5 27 in
-    ( omega (arith, field-lt bs 0 32)
-    , ap (λ (x : ℕ). x / 131072 % 1024) w ∙ field-part bs 0 5 10 17
-    , omega (arith, ap (λ (x : ℕ). x / 1 % 131072) w, field-part bs 0 15 17 0) )
+    let kind : word / 134217728 % 32 ≡ field bs 0 5 = ap (λ (x : ℕ). x / 134217728 % 32) w ∙ field-part bs 0 0 5 27 in (
+      omega (arith, field-lt bs 0 32),
+      ap (λ (x : ℕ). x / 131072 % 1024) w ∙ field-part bs 0 5 10 17,
+      omega (arith, ap (λ (x : ℕ). x / 1 % 131072) w, field-part bs 0 15 17 0),
+    )
 
 -- a field cut out of the window of three bytes that holds it
 pub field-in-window : (bs : List ℕ) (p w x : ℕ) → w ≤ 17 → x ≡ field bs (8 * (p / 8)) 24

@@ -35,15 +35,17 @@ then-at bs p w i q e h is = is ∙ cond-true _ _ _ h ∙ ap (λ (x : ℕ). x + w
 pub station-took : (bs cs : List ℕ) (p w i v : ℕ) → cs ≡ bs → p ≡ placeOf w i → Ok v ≡ fieldIn cs p w → (isIn bs (placeOf w i) w ≡ true) × (v ≡ valueAt bs w i)
 unfolding valueAt
 station-took bs cs p w i v same e h =
-    let got = took cs p w v h in
-    ( ap (λ l. isIn l (placeOf w i) w) (sym same) ∙ ap (λ (x : ℕ). isIn cs x w) (sym e) ∙ got .0
-    , got .1 ∙ ap (λ (x : ℕ). field cs x w) e ∙ ap (λ l. field l (placeOf w i) w) same )
+    let got = took cs p w v h in (
+      ap (λ l. isIn l (placeOf w i) w) (sym same) ∙ ap (λ (x : ℕ). isIn cs x w) (sym e) ∙ got .0,
+      got .1 ∙ ap (λ (x : ℕ). field cs x w) e ∙ ap (λ l. field l (placeOf w i) w) same,
+    )
 
 pub station-cut : (bs cs : List ℕ) (p w i : ℕ) (f : Fault) → cs ≡ bs → p ≡ placeOf w i → Err f ≡ fieldIn cs p w → (isIn bs (placeOf w i) w ≡ false) × (f ≡ at 1 (placeOf w i))
 station-cut bs cs p w i f same e h =
-    let got = cut cs p w f h in
-    ( ap (λ l. isIn l (placeOf w i) w) (sym same) ∙ ap (λ (x : ℕ). isIn cs x w) (sym e) ∙ got .0
-    , got .1 ∙ ap (at 1) e )
+    let got = cut cs p w f h in (
+      ap (λ l. isIn l (placeOf w i) w) (sym same) ∙ ap (λ (x : ℕ). isIn cs x w) (sym e) ∙ got .0,
+      got .1 ∙ ap (at 1) e,
+    )
 
 -- ---- the coupling k: its first field is taken at p, its second looked for at q
 

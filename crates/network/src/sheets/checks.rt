@@ -43,7 +43,10 @@ fn header(sheet: &[u8]) -> Result<Header, Refusal>
     let [first, second, third, fourth, ..] = sheet else {
         return Err(Refusal::NotWhole(0));
     };
-    let word = *first as u32 * 16777216 + *second as u32 * 65536 + *third as u32 * 256 + *fourth as u32;
+    let word = *first as u32 * 16777216
+        + *second as u32 * 65536
+        + *third as u32 * 256
+        + *fourth as u32;
     if word / 134217728 != 1 {
         return Err(Refusal::WrongKind);
     }
@@ -55,7 +58,10 @@ fn header(sheet: &[u8]) -> Result<Header, Refusal>
     if couplings > stations * (stations - 1) / 2 {
         return Err(Refusal::TooManyCouplings);
     }
-    Ok(Header { stations, couplings })
+    Ok(Header {
+        stations,
+        couplings,
+    })
 }
 
 // Whether the pair `(a, b)` comes before the pair `(c, d)`.
@@ -66,7 +72,13 @@ fn comes_before(a: u32, b: u32, c: u32, d: u32) -> bool
 }
 
 // The coupling `k`, which is next, after the coupling `last`.
-fn next_pair(reader: &mut BitReader<'_>, n: u32, w: usize, k: u32, last: (u32, u32)) -> Result<(u32, u32), Refusal>
+fn next_pair(
+    reader: &mut BitReader<'_>,
+    n: u32,
+    w: usize,
+    k: u32,
+    last: (u32, u32),
+) -> Result<(u32, u32), Refusal>
     requires width { ⌜ w ≤ 9 ⌝ }
     requires place { ⌜ now reader .at ≡ placeOf w (2 * k) ⌝ }
     requires small { ⌜ now reader .at < 2 ^ 31 ⌝ }
@@ -86,4 +98,51 @@ fn next_pair(reader: &mut BitReader<'_>, n: u32, w: usize, k: u32, last: (u32, u
         return Err(Refusal::PairNotRising(at));
     }
     Ok((larger, smaller))
+}
+
+// The couplings, each checked against the one before it.
+fn check_pairs(reader: &mut BitReader<'_>, n: u32, w: usize, m: u32) -> Result<(), Refusal>
+    requires small { ⌜ w ≤ 9 ⌝ ∗ ⌜ m < 2 ^ 17 ⌝ }
+    requires place { ⌜ now reader .at ≡ 32 ⌝ }
+    ensures value { λ r. ⌜ outcome r ≡ unless (firstFault (pairFault (now (now (reader .entry) .bytes)) n w) m) tt ⌝ }
+    ensures place { λ r. ⌜ Cases r (λ _. now (reader .exit) .at ≡ placeOf w (2 * m)) (λ _. Unit {0}) ⌝ }
+    ensures bytes { λ _. ⌜ now (now (reader .exit) .bytes) ≡ now (now (reader .entry) .bytes) ⌝ }
+{
+    let mut last = (0, 0);
+    for k in 0..m {
+        last = next_pair(reader, n, w, k, last)?;
+    }
+    Ok(())
+}
+
+// The stations of the order, whose first is the field `s`: each a station, none named before. It marks each one seen.
+fn check_stations(reader: &mut BitReader<'_>, n: u32, w: usize, s: u32) -> Result<(), Refusal>
+    requires small { ⌜ w ≤ 9 ⌝ ∗ ⌜ n ≤ 512 ⌝ ∗ ⌜ s < 2 ^ 18 ⌝ }
+    requires place { ⌜ now reader .at ≡ placeOf w s ⌝ }
+    ensures value { λ r. ⌜ outcome r ≡ unless (firstFault (placedFault (now (now (reader .entry) .bytes)) n w s) n) tt ⌝ }
+    ensures place { λ r. ⌜ Cases r (λ _. now (reader .exit) .at ≡ placeOf w (s + n)) (λ _. Unit {0}) ⌝ }
+    ensures bytes { λ _. ⌜ now (now (reader .exit) .bytes) ≡ now (now (reader .entry) .bytes) ⌝ }
+{
+    let mut seen = no_marks();
+    for k in 0..n {
+        let at = reader.at;
+        let station = reader.take(w)?;
+        if station >= n || seen[station as usize] {
+            return Err(Refusal::NoOrderStation(at));
+        }
+        seen[station as usize] = true;
+    }
+    Ok(())
+}
+
+// What follows the fields, which end at the bit `t`: zero bits in their last byte, and nothing more.
+fn check_end(sheet: &[u8], t: usize) -> Result<(), Refusal>
+    requires { ⌜ t < 2 ^ 31 ⌝ }
+    ensures { λ r. ⌜ outcome r ≡ unless (endFault (now (sheet .entry)) t) tt ⌝ }
+{
+    let whole = (t + 7) / 8;
+    if sheet.len() != whole || field_of(sheet, t, 8 * whole - t) != 0 {
+        return Err(Refusal::NotEnded(t));
+    }
+    Ok(())
 }

@@ -47,14 +47,15 @@ returns c =
     let was = c .in-Continue-larger .ensures tt in
     let then = c .in-Continue-smaller .ensures tt in
     let both = pair-took (c .args .reader .now .bytes .now) _ (c .args .reader .now .at) _ (c .args .w) (c .args .k) _ _ (c .pre .place) (was .value) (was .place) (was .bytes) (then .value) in
-    record
-    { value = elim (c .else-k-gt0 .came)
-        [ else-k-gt0·by·then-k-gt0·else-not-comes-before w ↦
+    record {
+      value = elim (c .else-k-gt0 .came) [
+        | else-k-gt0·by·then-k-gt0·else-not-comes-before w ↦
             (let a = c .pre .larger (omega arith) in
             let b = c .pre .smaller (omega arith) in
             let t = w .if-not-comes-before .ensures tt in
             grind (arith, tells))
         | else-k-gt0·by·else-k-gt0 w ↦ grind (arith, tells)
-        ]
-    ; place = both-passed _ _ (c .args .reader .now .at) _ _ (c .args .w) _ _ (was .value) (was .place) (then .value) (then .place)
-    ; bytes = search needs }
+      ];
+      place = both-passed _ _ (c .args .reader .now .at) _ _ (c .args .w) _ _ (was .value) (was .place) (then .value) (then .place);
+      bytes = search needs;
+    }
