@@ -38,17 +38,22 @@ head-ok bs p h =
     let got = counted bs p (headerFault bs) h in
     orElse-past (headerFault bs) _ (got .0) ∙ ap₂ (bodyFault bs) (sym (got .1)) (sym (got .2))
 
-pub body-pairs : (bs : List ℕ) (n m w : ℕ) (e : Fault) → w ≡ width n → Some e ≡ firstFault (pairFault bs n w) m → bodyFault bs n m ≡ Some e
-unfolding bodyFault
-body-pairs bs n m w e is h =
-    orElse-some _ _ e (ap (λ (x : ℕ). firstFault (pairFault bs n x) m) (sym is) ∙ sym h)
+-- ---- stage by stage, with bytes and width as the code has them
 
-pub body-order : (bs : List ℕ) (n m w : ℕ) → w ≡ width n → None ≡ firstFault (pairFault bs n w) m
-    → bodyFault bs n m ≡ orElse (firstFault (placedFault bs n w (2 * m)) n) (endFault bs (placeOf w (2 * m + n)))
-unfolding bodyFault
-body-order bs n m w is h =
-    orElse-past _ _ (ap (λ (x : ℕ). firstFault (pairFault bs n x) m) (sym is) ∙ sym h)
-    ∙ ap (λ (x : ℕ). orElse (firstFault (placedFault bs n x (2 * m)) n) (endFault bs (placeOf x (2 * m + n)))) (sym is)
+module _ (bs cs : List ℕ) (n m w : ℕ) (same : cs ≡ bs) (is : w ≡ width n) where
+  pairs-as : firstFault (pairFault cs n w) m ≡ firstFault (pairFault bs n (width n)) m
+  pairs-as = ap (λ l. firstFault (pairFault l n w) m) same ∙ ap (λ (x : ℕ). firstFault (pairFault bs n x) m) is
+
+  pub body-pairs : (e : Fault) → Err e ≡ unless (firstFault (pairFault cs n w) m) (tt {0}) → bodyFault bs n m ≡ Some e
+  unfolding bodyFault
+  body-pairs e h = orElse-some _ _ e (sym pairs-as ∙ unless-err _ (tt {0}) e h)
+
+  pub body-order : Ok (tt {0}) ≡ unless (firstFault (pairFault cs n w) m) (tt {0})
+      → bodyFault bs n m ≡ orElse (firstFault (placedFault bs n w (2 * m)) n) (endFault bs (placeOf w (2 * m + n)))
+  unfolding bodyFault
+  body-order h =
+      orElse-past _ _ (sym pairs-as ∙ unless-ok _ (tt {0}) (tt {0}) h .0)
+      ∙ ap (λ (x : ℕ). orElse (firstFault (placedFault bs n x (2 * m)) n) (endFault bs (placeOf x (2 * m + n)))) (sym is)
 
 pub sizes-ok : (bs : List ℕ) (p : Header) → Ok p ≡ headOf bs → fault bs ≡ None → Ok p ≡ sizesOf bs
 sizes-ok bs p h none =

@@ -146,3 +146,17 @@ fn check_end(sheet: &[u8], t: usize) -> Result<(), Refusal>
     }
     Ok(())
 }
+
+// The whole sheet, in one pass: what its header counts, or its first fault.
+pub(crate) fn check_sheet(sheet: &[u8]) -> Result<Header, Refusal>
+    ensures value { λ r. ⌜ outcome r ≡ sizesOf (now (sheet .entry)) ⌝ }
+    ensures small { λ r. ⌜ Cases r (λ h. (1 ≤ h .stations) × (h .stations ≤ 512) × (h .couplings < 2 ^ 17)) (λ _. Unit {0}) ⌝ }
+{
+    let counts = header(sheet)?;
+    let w = width_of(counts.stations);
+    let mut reader = BitReader::new(sheet, 32);
+    check_pairs(&mut reader, counts.stations, w, counts.couplings)?;
+    check_stations(&mut reader, counts.stations, w, 2 * counts.couplings)?;
+    check_end(sheet, place_of(w, 2 * counts.couplings + counts.stations))?;
+    Ok(counts)
+}
