@@ -87,6 +87,10 @@ abbrev pub fitting : Result Sheet Fault → ℕ → Result Sheet Fault
 fitting (Err f) l = Err f
 fitting (Ok s) l = cond (ltb l (s .size)) (Err (at 16 (s .size))) (Ok s)
 
+-- the outcome of a reading of bytes, with a list of the given length for the order
+abbrev pub reading : List ℕ → ℕ → Result Sheet Fault
+reading bs l = fitting (decode bs) l
+
 -- the answer of a reading: nothing, or the refusal
 abbrev pub done : Result Sheet Fault → Result (Unit {0}) Fault
 done (Err f) = Err f

@@ -7,4 +7,5 @@ pub mod Sheets
 pub mod Decode
 pub mod Encode
 pub mod Parts
+pub mod SheetView
 pub mod Laws

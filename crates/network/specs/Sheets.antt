@@ -109,3 +109,7 @@ pub record Well (s : Sheet) : Type 0 where
   pub whole : length (s .order) ≡ s .size
   pub known : (k : ℕ) → k < s .size → getD (s .order) k 0 < s .size
   pub once : (j k : ℕ) → j < k → k < s .size → getD (s .order) j 0 ≡ getD (s .order) k 0 → ⊥
+
+-- one station, which is its own order
+abbrev pub loneSheet : Sheet
+loneSheet = record { size = 1; couplings = []; order = 0 ∷ [] }

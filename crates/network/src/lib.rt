@@ -11,6 +11,7 @@ pub use net::Network;
 pub use orders::check_order;
 pub use refusal::Refusal;
 pub use sheets::SheetNetwork;
+pub use sheets::read_sheet;
 
 /// The next coupled station is the smallest one not below the given number.
 pub fn next_is_smallest() -> u8

@@ -5,6 +5,9 @@ ghost use denote.Ref.{now};
 ghost use Rattle.network.specs.Decode.{Stands};
 
 mod checks;
+mod reading;
+
+pub use reading::read_sheet;
 
 /// A network that stands on a packed sheet: nothing of it is unpacked.
 #[derive(Drop)]

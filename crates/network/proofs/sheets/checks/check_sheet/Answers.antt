@@ -65,6 +65,7 @@ returns c =
     let same = c .in-Continue-check-pairs .ensures tt .bytes ∙ c .new-reader .ensures .bytes in
     let none = sym (ap (λ l. firstFault (placedFault l n w (2 * m)) n) same) ∙ unless-ok _ tt tt (c .in-Continue-check-stations .ensures tt .value) .0 in
     let ended = ap (endFault bs) (sym (c .place-of .ensures .value)) ∙ unless-ok _ tt tt (c .in-Continue-check-end .ensures tt) .0 in
-    record
-    { value = sizes-ok bs (c .in-Continue-counts .counts) (c .in-Continue-counts .ensures tt .value) (head ∙ body ∙ orElse-past _ _ none ∙ ended)
-    ; small = c .in-Continue-counts .ensures tt .small }
+    record {
+      value = sizes-ok bs (c .in-Continue-counts .counts) (c .in-Continue-counts .ensures tt .value) (head ∙ body ∙ orElse-past _ _ none ∙ ended);
+      small = c .in-Continue-counts .ensures tt .small;
+    }
