@@ -11,3 +11,5 @@ pub mod Standing
 pub mod Trips
 pub mod Wells
 pub mod Windows
+pub mod OrderChecks
+pub mod Widths

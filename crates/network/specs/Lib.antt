@@ -7,3 +7,4 @@ pub mod Sheets
 pub mod Decode
 pub mod Encode
 pub mod Laws
+pub mod SheetLaws

@@ -4,11 +4,14 @@ mod bit_fields;
 mod net;
 mod orders;
 mod refusal;
+mod sheet_laws;
 
 ghost use Rattle.network.specs.Laws.{Next-is-smallest, Written-reads, Read-writes, Read-well};
 pub use net::Network;
 pub use orders::check_order;
 pub use refusal::Refusal;
+pub use sheet_laws::accepted_list_is_order;
+pub use sheet_laws::width_is_smallest;
 
 /// The next coupled station is the smallest one not below the given number.
 pub fn next_is_smallest() -> u8
