@@ -12,4 +12,6 @@ pub mod Trips
 pub mod Wells
 pub mod Windows
 pub mod OrderChecks
+pub mod SheetPairs
+pub mod SheetNets
 pub mod Widths

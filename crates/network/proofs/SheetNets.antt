@@ -1,0 +1,75 @@
+-- Networks and orders written as sheets and read again, and sheets read and written again.
+use mathlib.Core.Path.{_≡_, refl, sym, ap, ap₂, _∙_, fun-ext}
+use mathlib.Core.Bool.{Bool, true, false, cond, not, _&&_, _||_}
+use mathlib.Core.List.{List}
+use mathlib.Core.Logic.{⊎-elim}
+use Prim.Native.Nat.{ℕ, zero, suc, _≤_, _<_, max, min}
+use native.Mathlib.Nat.{max-comm, min-comm, max-eq-left, max-eq-right, min-eq-left, min-eq-right}
+use native.Mathlib.Omega.{arith}
+use lib.Dec.{ltb, eqb}
+use lib.ListN.{length, getD}
+use Rattle.std.specs.declared.option.Option.the-variants.{None}
+use Rattle.std.specs.declared.result.Result.{Result}
+use Rattle.std.specs.declared.result.Result.the-variants.{Ok, Err}
+use Rattle.std.proofs.shelf.Tests.{cases-order}
+use Rattle.std.proofs.shelf.Ways.{tells}
+use Rattle.network.proofs.OrderChecks.{faultless-order, order-faultless}
+use Rattle.network.proofs.SheetPairs.{has-pairs, has-at, has-each, rises-pairs, rises-next, next-rises, same-pairs, pairs-short}
+use Rattle.network.proofs.Trips.{written-reads, read-writes}
+use Rattle.network.proofs.Wells.{read-well}
+use Rattle.network.specs.Decode.{decode}
+use Rattle.network.specs.Encode.{bytesOf}
+use Rattle.network.specs.Net.{Net, Lawful}
+use Rattle.network.specs.Orders.{orderFault}
+use Rattle.network.specs.Refusals.{Fault}
+use Rattle.network.specs.SheetLaws.{OrderOf, Network-sheet-well, Network-returns, Bytes-tell-apart, Read-lawful, Read-ordered, Read-same-sheet, Read-same-bytes}
+use Rattle.network.specs.Sheets.{Sheet, Well, hasPair, pairsTo, sheetNet, sheetFrom, encode}
+
+-- ---- from a network
+
+pub network-sheet-well : Network-sheet-well
+network-sheet-well net order lawful fine =
+    let C = net .coupled in
+    let n = net .size in
+    let is = faultless-order order n fine in
+    let ps = pairsTo C n in
+    let says : (k : ℕ) → k < length ps → (getD ps k (0, 0) .0 < n) × (getD ps k (0, 0) .1 < getD ps k (0, 0) .0) =
+    λ k lt. has-says C n _ _ (has-at ps k lt) in
+    record {
+      some = lawful .some;
+      few = lawful .few;
+      fewPairs = pairs-short C n;
+      inside = λ k lt. says k lt .0;
+      falling = λ k lt. says k lt .1;
+      rising = rises-next ps (rises-pairs C n);
+      whole = is .whole;
+      known = is .known;
+      once = is .once;
+    }
+  where
+    has-says : (C : ℕ → ℕ → Bool) (n a b : ℕ) → hasPair (pairsTo C n) a b ≡ true → (a < n) × (b < a)
+    has-says C n a b h = let e = has-pairs C n a b in (grind (arith, tells), grind (arith, tells))
+
+same-coupled : (net : Net) → Lawful net → (order : List ℕ) (a b : ℕ) → sheetNet (sheetFrom net order) .coupled a b ≡ net .coupled a b
+same-coupled net lawful order a b =
+    let C = net .coupled in
+    let e = has-pairs C (net .size) (max a b) (min a b) in
+    let ab = lawful .within a b in
+    let ba = lawful .within b a in
+    let turned = lawful .symmetric a b in
+    ⊎-elim
+    (λ same. let top : max a b ≡ a = omega arith in let low : min a b ≡ a = omega arith in
+    let own = lawful .irreflexive a in grind (arith, tells))
+    (⊎-elim
+    (λ less. let top : max a b ≡ b = omega arith in let low : min a b ≡ a = omega arith in grind (arith, tells))
+    (λ more. let top : max a b ≡ a = omega arith in let low : min a b ≡ b = omega arith in grind (arith, tells)))
+    (cases-order a b)
+
+pub same-net : (net : Net) → Lawful net → (order : List ℕ) → sheetNet (sheetFrom net order) ≡ net
+same-net net lawful order =
+    let make : (ℕ → ℕ → Bool) → Net = λ C. record { size = net .size; coupled = C } in
+    ap make (fun-ext (λ a. fun-ext (λ b. same-coupled net lawful order a b)))
+
+pub network-returns : Network-returns
+network-returns net order lawful fine =
+    (written-reads (sheetFrom net order) (network-sheet-well net order lawful fine), same-net net lawful order)
