@@ -73,3 +73,59 @@ same-net net lawful order =
 pub network-returns : Network-returns
 network-returns net order lawful fine =
     (written-reads (sheetFrom net order) (network-sheet-well net order lawful fine), same-net net lawful order)
+
+ok-same : (s t : Sheet) → _≡_ {A = Result Sheet Fault} (Ok s) (Ok t) → s ≡ t
+ok-same s t h = cc
+
+pub bytes-tell-apart : Bytes-tell-apart
+bytes-tell-apart net net′ order order′ lawful fine lawful′ fine′ same =
+    let one = network-returns net order lawful fine in
+    let two = network-returns net′ order′ lawful′ fine′ in
+    let sheets : sheetFrom net order ≡ sheetFrom net′ order′ = ok-same _ _ (sym (one .0) ∙ ap decode same ∙ two .0) in
+    (sym (one .1) ∙ ap sheetNet sheets ∙ two .1, ap (λ (s : Sheet). s .order) sheets)
+
+-- ---- from a sheet
+
+well-lawful : (s : Sheet) → Well s → Lawful (sheetNet s)
+well-lawful s well = record {
+  some = well .some;
+  few = well .few;
+  symmetric = λ a b. let top = max-comm a b in let low = min-comm a b in
+      let turned : hasPair (s .couplings) (max a b) (min a b) ≡ hasPair (s .couplings) (max b a) (min b a) = ap₂ (hasPair (s .couplings)) top low in
+      grind (arith, tells);
+  irreflexive = λ a. grind (arith, tells);
+  within = λ a b h. grind (arith, tells);
+}
+
+well-ordered : (s : Sheet) → Well s → orderFault (s .order) (s .size) ≡ None
+well-ordered s well = order-faultless (s .order) (s .size) (record { whole = well .whole; few = well .few; known = well .known; once = well .once })
+
+same-has : (s : Sheet) → Well s → (a b : ℕ) → hasPair (pairsTo (sheetNet s .coupled) (s .size)) a b ≡ hasPair (s .couplings) a b
+same-has s well a b =
+    let e = has-pairs (sheetNet s .coupled) (s .size) a b in
+    let ps = s .couplings in
+    let inside : hasPair ps a b ≡ true → a < s .size = has-each (λ x y. x < s .size) ps (well .inside) a b in
+    let falling : hasPair ps a b ≡ true → b < a = has-each (λ x y. y < x) ps (well .falling) a b in
+    ⊎-elim
+    (λ same. grind (arith, tells))
+    (⊎-elim (λ less. grind (arith, tells))
+    (λ more. let top : max a b ≡ a = omega arith in let low : min a b ≡ b = omega arith in
+    let turned : hasPair ps (max a b) (min a b) ≡ hasPair ps a b = ap₂ (hasPair ps) top low in grind (arith, tells)))
+    (cases-order a b)
+
+pub same-sheet : (s : Sheet) → Well s → sheetFrom (sheetNet s) (s .order) ≡ s
+same-sheet s well =
+    let make : List (ℕ × ℕ) → Sheet = λ ps. record { size = s .size; couplings = ps; order = s .order } in
+    ap make (same-pairs _ _ (rises-pairs (sheetNet s .coupled) (s .size)) (next-rises (s .couplings) (well .rising)) (same-has s well))
+
+pub read-lawful : Read-lawful
+read-lawful bs s read = well-lawful s (read-well bs s read)
+
+pub read-ordered : Read-ordered
+read-ordered bs s read = well-ordered s (read-well bs s read)
+
+pub read-same-sheet : Read-same-sheet
+read-same-sheet bs s read = same-sheet s (read-well bs s read)
+
+pub read-same-bytes : Read-same-bytes
+read-same-bytes bs s bytes read = ap encode (read-same-sheet bs s read) ∙ read-writes bs s bytes read

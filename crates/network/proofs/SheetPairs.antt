@@ -72,11 +72,12 @@ rises-append : (ps qs : List (ℕ × ℕ)) → Rises ps → Rises qs
     → ((a b c d : ℕ) → hasPair ps a b ≡ true → hasPair qs c d ≡ true → before a b c d ≡ true) → Rises (ps ++ qs)
 unfolding hasPair
 rises-append [] qs rp rq h = rq
-rises-append (p ∷ ps) qs rp rq h =
-    ((λ a b has. ⊎-elim (λ left. rp .0 a b left)
-    (λ right. h (p .0) (p .1) a b (grind (arith, tells)) right)
-    (or-cases (hasPair ps a b) (hasPair qs a b) (sym (has-append ps qs a b) ∙ has))),
-    rises-append ps qs (rp .1) rq (λ a b c d x y. h a b c d (or-right _ _ x) y))
+rises-append (p ∷ ps) qs rp rq h = (
+  (λ a b has. ⊎-elim (λ left. rp .0 a b left)
+      (λ right. h (p .0) (p .1) a b (grind (arith, tells)) right)
+      (or-cases (hasPair ps a b) (hasPair qs a b) (sym (has-append ps qs a b) ∙ has))),
+  rises-append ps qs (rp .1) rq (λ a b c d x y. h a b c d (or-right _ _ x) y),
+)
 
 rises-one : (c : Bool) (x y : ℕ) → Rises (cond c ((x, y) ∷ []) [])
 unfolding hasPair
@@ -114,11 +115,13 @@ next-rises [] f = tt
 next-rises (p ∷ []) f = ((λ a b h. absurd (false≢true h)), tt)
 next-rises (p ∷ q ∷ ps) f =
     let rest : Rises (q ∷ ps) = next-rises (q ∷ ps) (λ k lt. f (suc k) (omega arith)) in
-    let step : before (p .0) (p .1) (q .0) (q .1) ≡ true = f 0 (omega arith) in
-    ((λ a b has. ⊎-elim
-    (λ here. grind (arith, tells))
-    (λ later. before-on (p .0) (p .1) (q .0) (q .1) a b step (rest .0 a b later))
-    (or-cases (eqb (q .0) a && eqb (q .1) b) (hasPair ps a b) has)), rest)
+    let step : before (p .0) (p .1) (q .0) (q .1) ≡ true = f 0 (omega arith) in (
+      (λ a b has. ⊎-elim
+          (λ here. grind (arith, tells))
+          (λ later. before-on (p .0) (p .1) (q .0) (q .1) a b step (rest .0 a b later))
+          (or-cases (eqb (q .0) a && eqb (q .1) b) (hasPair ps a b) has)),
+      rest,
+    )
 
 -- ---- a list that rises is told by what is in it
 

@@ -26,6 +26,11 @@ abbrev pub Order-is : Type 0
 Order-is = (order : List ℕ) (size : ℕ)
     → (orderFault order size ≡ None → OrderOf order size) × (OrderOf order size → orderFault order size ≡ None)
 
+-- an order leaves no station out
+abbrev pub Order-names-all : Type 0
+Order-names-all = (order : List ℕ) (size : ℕ) → OrderOf order size
+    → (station : ℕ) → station < size → (k : ℕ) × (k < size) × (getD order k 0 ≡ station)
+
 -- ---- the width of a station's field
 
 -- the width is at least one bit and enough for every station, and no smaller one is

@@ -11,7 +11,10 @@ pub use net::Network;
 pub use orders::check_order;
 pub use refusal::Refusal;
 pub use sheet_laws::accepted_list_is_order;
+pub use sheet_laws::bytes_tell_networks_apart;
+pub use sheet_laws::read_network_is_written_the_same;
 pub use sheet_laws::width_is_smallest;
+pub use sheet_laws::written_network_returns;
 
 /// The next coupled station is the smallest one not below the given number.
 pub fn next_is_smallest() -> u8
