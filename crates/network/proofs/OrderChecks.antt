@@ -1,14 +1,14 @@
 -- A list without a fault is an order, an order has no fault, and it leaves no station out.
-use mathlib.Core.Path.{_≡_, refl, sym, _∙_}
-use mathlib.Core.Bool.{Bool, true, false, not, _&&_, cond}
+use mathlib.Core.Path.{_≡_, _∙_}
+use mathlib.Core.Bool.{false, not, _&&_, cond}
 use mathlib.Core.List.{List}
-use mathlib.Core.Logic.{_⊎_, inl, inr, ⊎-elim}
-use Prim.Native.Nat.{ℕ, zero, suc, _≤_, _<_}
+use mathlib.Core.Logic.{_⊎_, inl, inr}
+use Prim.Native.Nat.{ℕ, zero, suc, _<_}
 use native.Mathlib.Omega.{arith}
 use lib.Dec.{leb, ltb, eqb}
 use lib.ListN.{length, getD}
 use Rattle.std.specs.declared.option.Option.the-variants.{None}
-use Rattle.std.proofs.shelf.Tests.{cases-lt, cases-eq, eqb-true, leb-true, ltb-true, eq-eqb, le-leb, lt-ltb, and-parts, and-from, not-true, not-from-false, cond-true}
+use Rattle.std.proofs.shelf.Tests.{cases-eq, eqb-true, leb-true, ltb-true, eq-eqb, le-leb, lt-ltb, and-parts, and-from, not-true, not-from-false, cond-true}
 use Rattle.std.proofs.shelf.Ways.{tells}
 use Rattle.network.proofs.Faults.{cond-none, no-fault, each-none}
 use Rattle.network.proofs.Marks.{unnamed, named-nowhere}

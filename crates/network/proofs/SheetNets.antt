@@ -1,28 +1,26 @@
 -- Networks and orders written as sheets and read again, and sheets read and written again.
-use mathlib.Core.Path.{_≡_, refl, sym, ap, ap₂, _∙_, fun-ext}
-use mathlib.Core.Bool.{Bool, true, false, cond, not, _&&_, _||_}
+use mathlib.Core.Path.{_≡_, sym, ap, _∙_, fun-ext}
+use mathlib.Core.Bool.{Bool, true}
 use mathlib.Core.List.{List}
 use mathlib.Core.Logic.{⊎-elim}
-use Prim.Native.Nat.{ℕ, zero, suc, _≤_, _<_, max, min}
-use native.Mathlib.Nat.{max-comm, min-comm, max-eq-left, max-eq-right, min-eq-left, min-eq-right}
+use Prim.Native.Nat.{ℕ, _<_, max, min}
+use native.Mathlib.Nat.{max-comm, min-comm}
 use native.Mathlib.Omega.{arith}
-use lib.Dec.{ltb, eqb}
 use lib.ListN.{length, getD}
 use Rattle.std.specs.declared.option.Option.the-variants.{None}
 use Rattle.std.specs.declared.result.Result.{Result}
-use Rattle.std.specs.declared.result.Result.the-variants.{Ok, Err}
-use Rattle.std.proofs.shelf.Tests.{cases-order}
+use Rattle.std.specs.declared.result.Result.the-variants.{Ok}
+use Rattle.std.proofs.shelf.Tests.{cases-lt, cases-order}
 use Rattle.std.proofs.shelf.Ways.{tells}
 use Rattle.network.proofs.OrderChecks.{faultless-order, order-faultless}
-use Rattle.network.proofs.SheetPairs.{has-pairs, has-at, has-each, rises-pairs, rises-next, next-rises, same-pairs, pairs-short}
+use Rattle.network.proofs.SheetPairs.{has-pairs, has-pair-at, has-each, rises-pairs, rises-next, next-rises, same-pairs, pairs-short}
 use Rattle.network.proofs.Trips.{written-reads, read-writes}
 use Rattle.network.proofs.Wells.{read-well}
 use Rattle.network.specs.Decode.{decode}
-use Rattle.network.specs.Encode.{bytesOf}
 use Rattle.network.specs.Net.{Net, Lawful}
 use Rattle.network.specs.Orders.{orderFault}
 use Rattle.network.specs.Refusals.{Fault}
-use Rattle.network.specs.SheetLaws.{OrderOf, Network-sheet-well, Network-returns, Bytes-tell-apart, Read-lawful, Read-ordered, Read-same-sheet, Read-same-bytes}
+use Rattle.network.specs.SheetLaws.{Network-sheet-well, Network-returns, Bytes-tell-apart, Read-lawful, Read-ordered, Read-same-sheet, Read-same-bytes}
 use Rattle.network.specs.Sheets.{Sheet, Well, hasPair, pairsTo, sheetNet, sheetFrom, encode}
 
 -- ---- from a network
@@ -34,7 +32,7 @@ network-sheet-well net order lawful fine =
     let is = faultless-order order n fine in
     let ps = pairsTo C n in
     let says : (k : ℕ) → k < length ps → (getD ps k (0, 0) .0 < n) × (getD ps k (0, 0) .1 < getD ps k (0, 0) .0) =
-    λ k lt. has-says C n _ _ (has-at ps k lt) in
+    λ k lt. has-says C n _ _ (has-pair-at ps k lt) in
     record {
       some = lawful .some;
       few = lawful .few;
@@ -90,9 +88,7 @@ well-lawful : (s : Sheet) → Well s → Lawful (sheetNet s)
 well-lawful s well = record {
   some = well .some;
   few = well .few;
-  symmetric = λ a b. let top = max-comm a b in let low = min-comm a b in
-      let turned : hasPair (s .couplings) (max a b) (min a b) ≡ hasPair (s .couplings) (max b a) (min b a) = ap₂ (hasPair (s .couplings)) top low in
-      grind (arith, tells);
+  symmetric = λ a b. grind (arith, tells, max-comm a b, min-comm a b);
   irreflexive = λ a. grind (arith, tells);
   within = λ a b h. grind (arith, tells);
 }
@@ -107,11 +103,9 @@ same-has s well a b =
     let inside : hasPair ps a b ≡ true → a < s .size = has-each (λ x y. x < s .size) ps (well .inside) a b in
     let falling : hasPair ps a b ≡ true → b < a = has-each (λ x y. y < x) ps (well .falling) a b in
     ⊎-elim
-    (λ same. grind (arith, tells))
-    (⊎-elim (λ less. grind (arith, tells))
-    (λ more. let top : max a b ≡ a = omega arith in let low : min a b ≡ b = omega arith in
-    let turned : hasPair ps (max a b) (min a b) ≡ hasPair ps a b = ap₂ (hasPair ps) top low in grind (arith, tells)))
-    (cases-order a b)
+    (λ falls. let top : max a b ≡ a = omega arith in let low : min a b ≡ b = omega arith in grind (arith, tells))
+    (λ rises. grind (arith, tells))
+    (cases-lt b a)
 
 pub same-sheet : (s : Sheet) → Well s → sheetFrom (sheetNet s) (s .order) ≡ s
 same-sheet s well =

@@ -1,6 +1,6 @@
 -- The couplings of a sheet as a list that rises: what is in it, and that it is told by what is in it.
 use mathlib.Core.Path.{_≡_, refl, sym, ap, ap₂, _∙_, subst}
-use mathlib.Core.Bool.{Bool, true, false, cond, not, _&&_, _||_}
+use mathlib.Core.Bool.{Bool, true, false, cond, _&&_, _||_}
 use mathlib.Core.List.{List, [], _∷_, _++_}
 use mathlib.Core.Logic.{⊎-elim}
 use Prim.Native.Nat.{ℕ, zero, suc, _+_, _-_, _*_, _/_, _≤_, _<_}
@@ -9,7 +9,7 @@ use native.Mathlib.Omega.{arith}
 use lib.Dec.{ltb, eqb}
 use lib.ListN.{length, getD}
 use Rattle.std.proofs.shelf.Lists.{length-append}
-use Rattle.std.proofs.shelf.Tests.{eq-eqb, eqb-true, and-from, and-parts, or-left, or-right, or-cases, false≢true}
+use Rattle.std.proofs.shelf.Tests.{eqb-true, and-parts, or-right, or-cases, false≢true}
 use Rattle.std.proofs.shelf.Ways.{tells}
 use Rattle.network.specs.Sheets.{hasPair, rowTo, pairsTo, before}
 
@@ -43,11 +43,11 @@ has-pairs C (suc n) a b =
     let less = has-pairs C n a b in
     grind (arith, tells)
 
-pub has-at : (ps : List (ℕ × ℕ)) (k : ℕ) → k < length ps → hasPair ps (getD ps k (0, 0) .0) (getD ps k (0, 0) .1) ≡ true
+pub has-pair-at : (ps : List (ℕ × ℕ)) (k : ℕ) → k < length ps → hasPair ps (getD ps k (0, 0) .0) (getD ps k (0, 0) .1) ≡ true
 unfolding hasPair
-has-at [] k h = absurd (omega arith)
-has-at (p ∷ ps) zero h = grind (arith, tells)
-has-at (p ∷ ps) (suc k) h = or-right _ _ (has-at ps k (omega arith))
+has-pair-at [] k h = absurd (omega arith)
+has-pair-at (p ∷ ps) zero h = grind (arith, tells)
+has-pair-at (p ∷ ps) (suc k) h = or-right _ _ (has-pair-at ps k (omega arith))
 
 -- what holds at every place holds of every pair that the list has
 pub has-each : (P : ℕ → ℕ → Type 0) (ps : List (ℕ × ℕ)) → ((k : ℕ) → k < length ps → P (getD ps k (0, 0) .0) (getD ps k (0, 0) .1))
@@ -98,18 +98,20 @@ rises-pairs C (suc n) =
     rises-append (pairsTo C n) (rowTo C n n) (rises-pairs C n) (rises-row C n n)
     (λ a b c d h g. let less = has-pairs C n a b in let row = has-row C n n c d in grind (arith, tells))
 
--- a list that rises from each place to the next
-pub rises-next : (ps : List (ℕ × ℕ)) → Rises ps → (k : ℕ) → suc k < length ps
+-- each pair comes before the next one
+abbrev pub RisesByOne : List (ℕ × ℕ) → Type 0
+RisesByOne ps = (k : ℕ) → suc k < length ps
     → before (getD ps k (0, 0) .0) (getD ps k (0, 0) .1) (getD ps (suc k) (0, 0) .0) (getD ps (suc k) (0, 0) .1) ≡ true
+
+pub rises-next : (ps : List (ℕ × ℕ)) → Rises ps → RisesByOne ps
 rises-next [] r k h = absurd (omega arith)
-rises-next (p ∷ ps) r zero h = r .0 _ _ (has-at ps 0 (omega arith))
+rises-next (p ∷ ps) r zero h = r .0 _ _ (has-pair-at ps 0 (omega arith))
 rises-next (p ∷ ps) r (suc k) h = rises-next ps (r .1) k (omega arith)
 
 before-on : (a b c d x y : ℕ) → before a b c d ≡ true → before c d x y ≡ true → before a b x y ≡ true
 before-on a b c d x y g h = grind (arith, tells)
 
-pub next-rises : (ps : List (ℕ × ℕ)) → ((k : ℕ) → suc k < length ps
-    → before (getD ps k (0, 0) .0) (getD ps k (0, 0) .1) (getD ps (suc k) (0, 0) .0) (getD ps (suc k) (0, 0) .1) ≡ true) → Rises ps
+pub next-rises : (ps : List (ℕ × ℕ)) → RisesByOne ps → Rises ps
 unfolding hasPair
 next-rises [] f = tt
 next-rises (p ∷ []) f = ((λ a b h. absurd (false≢true h)), tt)
@@ -129,37 +131,26 @@ same-first : (p q : ℕ × ℕ) (ps qs : List (ℕ × ℕ)) → Rises (p ∷ ps)
     → ((a b : ℕ) → hasPair (p ∷ ps) a b ≡ hasPair (q ∷ qs) a b) → (p .0 ≡ q .0) × (p .1 ≡ q .1)
 unfolding hasPair
 same-first p q ps qs rp rq h =
-    let there : (eqb (q .0) (p .0) && eqb (q .1) (p .1)) ≡ true → (p .0 ≡ q .0) × (p .1 ≡ q .1) =
-    λ e. let both = and-parts (eqb (q .0) (p .0)) (eqb (q .1) (p .1)) e in (sym (eqb-true _ _ (both .0)), sym (eqb-true _ _ (both .1))) in
-    let back : (eqb (p .0) (q .0) && eqb (p .1) (q .1)) ≡ true → (p .0 ≡ q .0) × (p .1 ≡ q .1) =
-    λ e. let both = and-parts (eqb (p .0) (q .0)) (eqb (p .1) (q .1)) e in (eqb-true _ _ (both .0), eqb-true _ _ (both .1)) in
-    let mine : hasPair (q ∷ qs) (p .0) (p .1) ≡ true = sym (h (p .0) (p .1)) ∙ has-at (p ∷ ps) 0 (omega arith) in
-    let yours : hasPair (p ∷ ps) (q .0) (q .1) ≡ true = h (q .0) (q .1) ∙ has-at (q ∷ qs) 0 (omega arith) in
-    ⊎-elim there
-    (λ inQ. ⊎-elim back
-    (λ inP. let after = rp .0 (q .0) (q .1) inP in let ahead = rq .0 (p .0) (p .1) inQ in absurd (apart (p .0) (p .1) (q .0) (q .1) after ahead))
-    (or-cases (eqb (p .0) (q .0) && eqb (p .1) (q .1)) (hasPair ps (q .0) (q .1)) yours))
-    (or-cases (eqb (q .0) (p .0) && eqb (q .1) (p .1)) (hasPair qs (p .0) (p .1)) mine)
-  where
-    apart : (a b c d : ℕ) → before a b c d ≡ true → before c d a b ≡ true → ⊥
-    apart a b c d g h = grind (arith, tells)
+    let here = h (p .0) (p .1) in
+    let there = h (q .0) (q .1) in
+    let ahead = rp .0 (q .0) (q .1) in
+    let behind = rq .0 (p .0) (p .1) in
+    (grind (arith, tells), grind (arith, tells))
 
 same-rest : (p q : ℕ × ℕ) (ps qs : List (ℕ × ℕ)) → Rises (p ∷ ps) → Rises (q ∷ qs) → (p .0 ≡ q .0) × (p .1 ≡ q .1)
     → ((a b : ℕ) → hasPair (p ∷ ps) a b ≡ hasPair (q ∷ qs) a b) → (a b : ℕ) → hasPair ps a b ≡ hasPair qs a b
 unfolding hasPair
-same-rest p q ps qs rp rq e h a b = go (hasPair ps a b) (hasPair qs a b) refl refl
-  where
-    go : (x y : Bool) → hasPair ps a b ≡ x → hasPair qs a b ≡ y → hasPair ps a b ≡ hasPair qs a b
-    go true true i j = i ∙ sym j
-    go false false i j = i ∙ sym j
-    go true false i j = let l = rp .0 a b i in let g = h a b in let e0 = e .0 in let e1 = e .1 in grind (arith, tells)
-    go false true i j = let l = rq .0 a b j in let g = h a b in let e0 = e .0 in let e1 = e .1 in grind (arith, tells)
+same-rest p q ps qs rp rq e h a b =
+    let all = h a b in
+    let left = rp .0 a b in
+    let right = rq .0 a b in
+    grind (arith, tells, e .0, e .1)
 
 pub same-pairs : (ps qs : List (ℕ × ℕ)) → Rises ps → Rises qs → ((a b : ℕ) → hasPair ps a b ≡ hasPair qs a b) → ps ≡ qs
 unfolding hasPair
 same-pairs [] [] rp rq h = refl
-same-pairs [] (q ∷ qs) rp rq h = absurd (false≢true (h (q .0) (q .1) ∙ has-at (q ∷ qs) 0 (omega arith)))
-same-pairs (p ∷ ps) [] rp rq h = absurd (false≢true (sym (h (p .0) (p .1)) ∙ has-at (p ∷ ps) 0 (omega arith)))
+same-pairs [] (q ∷ qs) rp rq h = absurd (false≢true (h (q .0) (q .1) ∙ has-pair-at (q ∷ qs) 0 (omega arith)))
+same-pairs (p ∷ ps) [] rp rq h = absurd (false≢true (sym (h (p .0) (p .1)) ∙ has-pair-at (p ∷ ps) 0 (omega arith)))
 same-pairs (p ∷ ps) (q ∷ qs) rp rq h =
     let first = same-first p q ps qs rp rq h in
     ap₂ (λ (x : ℕ × ℕ) (xs : List (ℕ × ℕ)). x ∷ xs) (ap₂ (λ (x y : ℕ). (x, y)) (first .0) (first .1))
