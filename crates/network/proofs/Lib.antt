@@ -4,11 +4,15 @@ pub mod Fields
 pub mod Found
 pub mod Marks
 pub mod Nexts
+pub mod OrderChecks
 pub mod Places
 pub mod Searches
+pub mod SheetNets
+pub mod SheetPairs
 pub mod Stages
 pub mod Standing
 pub mod Takes
 pub mod Trips
 pub mod Wells
+pub mod Widths
 pub mod Windows

@@ -9,3 +9,4 @@ pub mod Encode
 pub mod Parts
 pub mod SheetView
 pub mod Laws
+pub mod SheetLaws

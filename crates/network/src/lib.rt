@@ -4,12 +4,18 @@ mod bit_fields;
 mod net;
 mod orders;
 mod refusal;
+mod sheet_laws;
 mod sheets;
 
 ghost use Rattle.network.specs.Laws.{Next-is-smallest, Written-reads, Read-writes, Read-well};
 pub use net::Network;
 pub use orders::check_order;
 pub use refusal::Refusal;
+pub use sheet_laws::accepted_list_is_order;
+pub use sheet_laws::bytes_tell_networks_apart;
+pub use sheet_laws::read_network_is_written_the_same;
+pub use sheet_laws::width_is_smallest;
+pub use sheet_laws::written_network_returns;
 pub use sheets::SheetNetwork;
 pub use sheets::read_sheet;
 
