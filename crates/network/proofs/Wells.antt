@@ -44,7 +44,7 @@ order-length : (bs : List ℕ) (n m : ℕ) → length (sheetOf bs n m .order) �
 unfolding sheetOf
 order-length bs n m = length-map-counting _ 0 n
 
-size-is : (bs : List ℕ) (n m : ℕ) → sheetOf bs n m .size ≡ n
+pub size-is : (bs : List ℕ) (n m : ℕ) → sheetOf bs n m .size ≡ n
 unfolding sheetOf
 size-is bs n m = refl
 

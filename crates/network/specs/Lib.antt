@@ -7,6 +7,7 @@ pub mod Sheets
 pub mod Decode
 pub mod Encode
 pub mod Parts
+pub mod SheetMeaning
 pub mod SheetView
 pub mod Laws
 pub mod SheetLaws

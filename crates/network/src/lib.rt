@@ -17,6 +17,7 @@ pub use sheet_laws::read_network_is_written_the_same;
 pub use sheet_laws::width_is_smallest;
 pub use sheet_laws::written_network_returns;
 pub use sheets::SheetNetwork;
+pub use sheets::SheetNetworkNetwork;
 pub use sheets::read_sheet;
 
 /// The next coupled station is the smallest one not below the given number.

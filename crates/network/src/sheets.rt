@@ -5,8 +5,10 @@ ghost use denote.Ref.{now};
 ghost use Rattle.network.specs.Decode.{Stands};
 
 mod checks;
+mod questions;
 mod reading;
 
+pub use questions::SheetNetworkNetwork;
 pub use reading::read_sheet;
 
 /// A network that stands on a packed sheet: nothing of it is unpacked.
