@@ -12,6 +12,7 @@ pub mod SheetPairs
 pub mod Stages
 pub mod Standing
 pub mod Takes
+pub mod ToldApart
 pub mod Trips
 pub mod Wells
 pub mod Widths

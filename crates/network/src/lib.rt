@@ -11,6 +11,7 @@ ghost use Rattle.network.specs.Laws.{Next-is-smallest, Written-reads, Read-wri
 pub use net::Network;
 pub use orders::check_order;
 pub use refusal::Refusal;
+pub use refusal::refusals_are_told_apart;
 pub use sheet_laws::accepted_list_is_order;
 pub use sheet_laws::bytes_tell_networks_apart;
 pub use sheet_laws::read_network_is_written_the_same;
