@@ -15,7 +15,7 @@ pub use reading::read_sheet;
 #[derive(Drop)]
 pub struct SheetNetwork<'a> {
     bytes: &'a [u8],
-    size: u16,
+    size: u32,
     couplings: u32,
     ghost stands: { Stands (now bytes) size couplings },
     ghost some: { 1 ≤ size },

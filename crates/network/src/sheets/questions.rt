@@ -53,21 +53,15 @@ pub impl<'a> Network for SheetNetwork<'a> as SheetNetworkNetwork {
     ghost lawful = { λ network. standing-lawful (network .bytes .now) (network .size) (network .couplings) (network .some) (network .few) };
 
     fn size(&self) -> u16 {
-        self.size
+        self.size as u16
     }
 
     fn coupled(&self, a: u16, b: u16) -> bool {
-        if a >= self.size || b >= self.size || a == b {
-            return false;
-        }
         let larger = a.max(b) as u32;
         let smaller = a.min(b) as u32;
-        find_pair(
-            self.bytes,
-            self.size as u32,
-            self.couplings,
-            larger,
-            smaller,
-        )
+        if larger >= self.size || larger == smaller {
+            return false;
+        }
+        find_pair(self.bytes, self.size, self.couplings, larger, smaller)
     }
 }

@@ -71,7 +71,7 @@ pub fn read_sheet<'a>(
     );
     *place = SheetNetwork {
         bytes: sheet,
-        size: counts.stations as u16,
+        size: counts.stations,
         couplings: counts.couplings,
     };
     Ok(())
