@@ -1,0 +1,9 @@
+pub mod Relations
+pub mod Members
+pub mod EndVertex
+pub mod Least
+pub mod Excess
+pub mod Removal
+pub mod Paths
+pub mod Lasts
+pub mod Statements

@@ -1,0 +1,4 @@
+pub mod Graphs
+pub mod Orders
+pub mod Elimination
+pub mod Theorems

@@ -1,0 +1,3 @@
+//! Elimination of stations: sets of pairs, orders, filled pairs, and the algorithms that find orders with little fill.
+//! An inner crate: the plan stands on it, and no user calls it.
+pub mod theory;
