@@ -7,3 +7,5 @@ pub mod Removal
 pub mod Paths
 pub mod Lasts
 pub mod Statements
+pub mod Rows
+pub mod RowTests

@@ -69,10 +69,11 @@ filled-path C (v ∷ vs) sy w a b h =
     longer : filled (after C v) vs a b ≡ true → Joined (after C v) vs a b → Joined C (v ∷ vs) a b
     longer e j =
         let ends = within-filled (after C v) vs (within-after C v vs w) a b e in
-        let t = expand C sy v a (j .0) b (j .1) in
-        ( t .0
-        , t .1
-        , λ m i. ⊎-elim (λ (q : m ≡ v). (inl (q, ends .0), inl (q, ends .1))) (λ (k : In m (j .0)). (inr (j .2 m k .0), inr (j .2 m k .1))) (t .2 m i))
+        let t = expand C sy v a (j .0) b (j .1) in (
+          t .0,
+          t .1,
+          λ m i. ⊎-elim (λ (q : m ≡ v). (inl (q, ends .0), inl (q, ends .1))) (λ (k : In m (j .0)). (inr (j .2 m k .0), inr (j .2 m k .1))) (t .2 m i),
+        )
 
 -- ---- a path, as one after v has left
 
@@ -93,24 +94,24 @@ module _ (C : Graph) (sy : Symmetric C) (ir : Irreflexive C) (v : ℕ) where
   skip : (a m b : ℕ) (ms ks : List ℕ) → ((x : ℕ) → In x ms → In x ks) → In m ks → a ≢ v → m ≢ v → C a v ≡ true → C v m ≡ true → Shorter m ms b → Shorter a ks b
   skip a m b ms ks f i na nm h k r =
       ⊎-elim
-        (λ (q : a ≡ m). let P : ℕ → Type 0 = λ x. Shorter x ks b in subst P (sym q) (wider m b ms ks f r))
-        (λ (d : a ≡ m → ⊥). ahead a m b ms ks f i nm (after-new C v a m na nm d (sy v a ∙ h) k) r)
-        (cases-eq a m)
+      (λ (q : a ≡ m). let P : ℕ → Type 0 = λ x. Shorter x ks b in subst P (sym q) (wider m b ms ks f r))
+      (λ (d : a ≡ m → ⊥). ahead a m b ms ks f i nm (after-new C v a m na nm d (sy v a ∙ h) k) r)
+      (cases-eq a m)
 
   shorten : (a : ℕ) (ms : List ℕ) (b : ℕ) → a ≢ v → b ≢ v → Path C a ms b → Shorter a ms b
   shorten a [] b na nb h = inr ([], after-old C v a b na nb h, λ x i. absurd i)
   shorten a (m ∷ []) b na nb h =
       ⊎-elim
-        (λ (q : m ≡ v). ⊎-elim (λ (r : a ≡ b). inl r) (λ (d : a ≡ b → ⊥). inr ([], after-new C v a b na nb d (cc (sy v a, h .0)) (cc (h .1)), λ x i. absurd i)) (cases-eq a b))
-        (λ (d : m ≡ v → ⊥). ahead a m b [] (m ∷ []) (λ x i. absurd i) (inl refl) d (after-old C v a m na d (h .0)) (inr ([], after-old C v m b d nb (h .1), λ x i. absurd i)))
-        (cases-eq m v)
+      (λ (q : m ≡ v). ⊎-elim (λ (r : a ≡ b). inl r) (λ (d : a ≡ b → ⊥). inr ([], after-new C v a b na nb d (cc (sy v a, h .0)) (cc (h .1)), λ x i. absurd i)) (cases-eq a b))
+      (λ (d : m ≡ v → ⊥). ahead a m b [] (m ∷ []) (λ x i. absurd i) (inl refl) d (after-old C v a m na d (h .0)) (inr ([], after-old C v m b d nb (h .1), λ x i. absurd i)))
+      (cases-eq m v)
   shorten a (m ∷ k ∷ ms) b na nb h =
       ⊎-elim
-        (λ (q : m ≡ v). let vk : C v k ≡ true = cc (h .1 .0) in
-          let nk : k ≢ v = λ r. both-ways (C v v) (ir v) (ap (C v) (sym r) ∙ vk) in
-          skip a k b ms (m ∷ k ∷ ms) (λ x i. inr (inr i)) (inr (inl refl)) na nk (ap (C a) (sym q) ∙ h .0) vk (shorten k ms b nk nb (h .1 .1)))
-        (λ (d : m ≡ v → ⊥). ahead a m b (k ∷ ms) (m ∷ k ∷ ms) (λ x i. inr i) (inl refl) d (after-old C v a m na d (h .0)) (shorten m (k ∷ ms) b d nb (h .1)))
-        (cases-eq m v)
+      (λ (q : m ≡ v). let vk : C v k ≡ true = cc (h .1 .0) in
+      let nk : k ≢ v = λ r. both-ways (C v v) (ir v) (ap (C v) (sym r) ∙ vk) in
+      skip a k b ms (m ∷ k ∷ ms) (λ x i. inr (inr i)) (inr (inl refl)) na nk (ap (C a) (sym q) ∙ h .0) vk (shorten k ms b nk nb (h .1 .1)))
+      (λ (d : m ≡ v → ⊥). ahead a m b (k ∷ ms) (m ∷ k ∷ ms) (λ x i. inr i) (inl refl) d (after-old C v a m na d (h .0)) (shorten m (k ∷ ms) b d nb (h .1)))
+      (cases-eq m v)
 
 path-filled : (C : Graph) (xs : List ℕ) → Symmetric C → Irreflexive C → Distinct xs → (a b : ℕ) → a ≢ b → Joined C xs a b → filled C xs a b ≡ true
 path-filled C xs sy ir d a b ne ([], h, f) = direct xs
@@ -121,7 +122,7 @@ path-filled C xs sy ir d a b ne ([], h, f) = direct xs
 path-filled C [] sy ir d a b ne (m ∷ ms, h, f) = absurd (f m (inl refl) .0)
 path-filled C (v ∷ vs) sy ir d a b ne (m ∷ ms, h, f) =
     or-right (C a b) (filled (after C v) vs a b)
-      (path-filled (after C v) vs (after-symmetric C v sy) (after-irreflexive C v ir) (d .1) a b ne (taken (shorten C sy ir v a (m ∷ ms) b (later a (f m (inl refl) .0)) (later b (f m (inl refl) .1)) h)))
+    (path-filled (after C v) vs (after-symmetric C v sy) (after-irreflexive C v ir) (d .1) a b ne (taken (shorten C sy ir v a (m ∷ ms) b (later a (f m (inl refl) .0)) (later b (f m (inl refl) .1)) h)))
   where
     later : (a : ℕ) → Before (v ∷ vs) m a → a ≢ v
     later a (inl t) = not-head v a vs d (t .1)

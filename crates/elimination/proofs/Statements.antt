@@ -75,21 +75,21 @@ not-fill C ys a b g = ⊎-elim (λ (h : fill C ys a b ≡ true). absurd (both-wa
 
 pub filled-is-the-least-closed : Filled-is-the-least-closed
 filled-is-the-least-closed net xs l o =
-    let s = lawful-simple net l in
-    ( filled-simple (net .size) (net .coupled) s xs o
-    , filled-holds (net .coupled) xs
-    , closed-to (filled (net .coupled) xs) xs (filled-order-closed (net .size) (net .coupled) s xs o)
-    , λ H c k. filled-order-least (net .size) (net .coupled) s xs o H c (closed-from H xs k)
+    let s = lawful-simple net l in (
+      filled-simple (net .size) (net .coupled) s xs o,
+      filled-holds (net .coupled) xs,
+      closed-to (filled (net .coupled) xs) xs (filled-order-closed (net .size) (net .coupled) s xs o),
+      λ H c k. filled-order-least (net .size) (net .coupled) s xs o H c (closed-from H xs k),
     )
 
 pub perfect-fills-within : Perfect-fills-within
 perfect-fills-within net xs l o H c k = filled-order-least (net .size) (net .coupled) (lawful-simple net l) xs o H c (closed-from H xs k)
 
 pub filled-by-paths : Filled-by-paths
-filled-by-paths net xs l o a b ne =
-    ( filled-joined (net .coupled) xs (l .symmetric) a b (plain (net .size) (net .coupled) xs o (lawful-simple net l) .within)
-    , joined-filled (net .coupled) xs (l .symmetric) a b (l .irreflexive) (o .once) ne
-    )
+filled-by-paths net xs l o a b ne = (
+  filled-joined (net .coupled) xs (l .symmetric) a b (plain (net .size) (net .coupled) xs o (lawful-simple net l) .within),
+  joined-filled (net .coupled) xs (l .symmetric) a b (l .irreflexive) (o .once) ne,
+)
 
 pub end-vertices : End-vertex
 end-vertices n H xs K s o c k f =
@@ -105,12 +105,12 @@ less-fill-leaves-a-spare-pair net xs l o ys oy p =
     let u = p .1 .0 in
     let v = p .1 .1 in
     let w = fill-parts C xs u v (p .1 .2) in
-    let t = spare-beyond n C (filled C xs) xs ys o oy s (filled-simple n C s xs o) (filled-order-closed n C s xs o) (filled-sub C xs ys (p .0)) u v (w .0) (lacks C ys u v (p .1 .3) (w .1)) in
-    ( t .0
-    , t .1
-    , fill-from C xs (t .0) (t .1) (t .2) (⊎-elim (λ (c : C (t .0) (t .1) ≡ true). absurd (both-ways (filled C ys (t .0) (t .1)) (t .3) (filled-holds C ys (t .0) (t .1) c))) (λ (c : C (t .0) (t .1) ≡ false). c) (cases-bool (C (t .0) (t .1))))
-    , not-fill C ys (t .0) (t .1) (t .3)
-    , spare-to n (filled C xs) (t .0) (t .1) (t .4)
+    let t = spare-beyond n C (filled C xs) xs ys o oy s (filled-simple n C s xs o) (filled-order-closed n C s xs o) (filled-sub C xs ys (p .0)) u v (w .0) (lacks C ys u v (p .1 .3) (w .1)) in (
+      t .0,
+      t .1,
+      fill-from C xs (t .0) (t .1) (t .2) (⊎-elim (λ (c : C (t .0) (t .1) ≡ true). absurd (both-ways (filled C ys (t .0) (t .1)) (t .3) (filled-holds C ys (t .0) (t .1) c))) (λ (c : C (t .0) (t .1) ≡ false). c) (cases-bool (C (t .0) (t .1)))),
+      not-fill C ys (t .0) (t .1) (t .3),
+      spare-to n (filled C xs) (t .0) (t .1) (t .4),
     )
 
 pub without-spare-fill-minimal : Without-spare-fill-minimal

@@ -49,3 +49,23 @@ spare n G u v = complete G (λ a. G u a && G v a) (upTo n)
 -- G without the pair u v
 abbrev pub without : Graph → ℕ → ℕ → Graph
 without G u v a b = G a b && not ((eqb a u && eqb b v) || (eqb a v && eqb b u))
+
+-- G with the pair u v
+abbrev pub including : Graph → ℕ → ℕ → Graph
+including G u v a b = G a b || ((eqb a u && eqb b v) || (eqb a v && eqb b u))
+
+-- G without the pairs at v
+abbrev pub apart : Graph → ℕ → Graph
+apart G v a b = G a b && (not (eqb a v) && not (eqb b v))
+
+-- the pairs of either
+abbrev pub union : Graph → Graph → Graph
+union G H a b = G a b || H a b
+
+-- the pairs of G at v
+abbrev pub pairsAt : Graph → ℕ → Graph
+pairsAt G v a b = G a b && (eqb a v || eqb b v)
+
+-- every two neighbours of v
+abbrev pub around : Graph → ℕ → Graph
+around G v a b = G v a && (G v b && not (eqb a b))

@@ -2,3 +2,5 @@ pub mod Graphs
 pub mod Orders
 pub mod Elimination
 pub mod Theorems
+pub mod Words
+pub mod View
