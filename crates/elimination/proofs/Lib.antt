@@ -9,3 +9,4 @@ pub mod Lasts
 pub mod Statements
 pub mod Rows
 pub mod RowTests
+pub mod Walks

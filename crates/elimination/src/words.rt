@@ -5,6 +5,8 @@ ghost use mathlib.Core.Path.{_≡_};
 ghost use Prim.Native.Nat.{ℕ, _+_, _*_, _<_, _≤_};
 ghost use lib.Dec.{eqb, ltb};
 ghost use Rattle.network.specs.Bits.{bitAt, countTo};
+ghost use Rattle.network.specs.Laws.{FirstIs};
+ghost use Rattle.elimination.specs.Graphs.{around, union};
 ghost use Rattle.elimination.specs.Words.{between, commonWithin, has, nextIn, placed, rows, rowTaken, struck};
 
 /// Words without any pair.
@@ -59,7 +61,8 @@ fn below(n: usize, k: usize) -> u64
 /// The first station not below `from` in row `a`: at most eight word steps.
 pub(crate) fn next_in(words: &[u64; 4096], a: usize, from: usize) -> Option<usize>
     requires { ⌜ a < 512 ⌝ }
-    ensures { λ r. ⌜ r ≡ nextIn (rows (now (words .entry))) a from ⌝ }
+    ensures value { λ r. ⌜ r ≡ nextIn (rows (now (words .entry))) a from ⌝ }
+    ensures first { λ r. ⌜ FirstIs (rows (now (words .entry)) a) from 512 r ⌝ }
 {
     for k in from / 64..8 {
         let word = words[a * 8 + k] & !below(from, k);
@@ -123,4 +126,18 @@ pub(crate) fn count_between(words: &[u64; 4096], a: usize, low: usize, high: usi
         total += (words[a * 8 + k] & mask).count_ones();
     }
     total
+}
+
+/// Joins every two members of row `v`: eight word steps for each member.
+pub(crate) fn join_rows(words: &mut [u64; 4096], v: usize)
+    requires one { ⌜ v < 512 ⌝ }
+    requires irreflexive { ⌜ ((a : ℕ) → rows (now words) a a ≡ false) ⌝ }
+    ensures { λ _. ⌜ rows (now (words .exit)) ≡ union (rows (now (words .entry))) (around (rows (now (words .entry))) v) ⌝ }
+{
+    let mut from = 0;
+    while let Some(a) = next_in(words, v, from) {
+        take_row(words, a, v);
+        strike(words, a, a);
+        from = a + 1;
+    }
 }
