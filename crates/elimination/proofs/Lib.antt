@@ -10,3 +10,4 @@ pub mod Statements
 pub mod Rows
 pub mod RowTests
 pub mod Walks
+pub mod Listing

@@ -3,4 +3,5 @@ pub mod Orders
 pub mod Elimination
 pub mod Theorems
 pub mod Words
+pub mod Kept
 pub mod View

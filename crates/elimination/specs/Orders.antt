@@ -47,3 +47,8 @@ abbrev pub lastOf : List ℕ → Option ℕ
 lastOf [] = None
 lastOf (x ∷ []) = Some x
 lastOf (x ∷ y ∷ ys) = lastOf (y ∷ ys)
+
+-- the position of s
+abbrev pub positionOf : List ℕ → ℕ → ℕ
+positionOf [] s = 0
+positionOf (x ∷ xs) s = cond (eqb x s) 0 (suc (positionOf xs s))

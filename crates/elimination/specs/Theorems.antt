@@ -2,12 +2,17 @@
 use mathlib.Core.Path.{_≡_}
 use mathlib.Core.List.{List}
 use mathlib.Core.Bool.{Bool, true, false}
-use Prim.Native.Nat.{ℕ, _<_}
-use Rattle.std.specs.declared.option.Option.the-variants.{Some}
+use Prim.Native.Nat.{ℕ, _<_, _≤_}
+use Rattle.std.specs.declared.option.Option.the-variants.{Some, None}
 use Rattle.network.specs.Net.{Net, Lawful}
+use Rattle.network.specs.Orders.{orderFault}
 use Rattle.elimination.specs.Graphs.{Graph, Simple, Sub, ProperPart, complete, simplicial, closed, spare, without}
 use Rattle.elimination.specs.Orders.{In, Order, upTo, lastOf}
 use Rattle.elimination.specs.Elimination.{filled, fill, Joined, Minimal}
+
+-- a list names each of at most 512 stations once exactly if the check of orders tells no fault
+abbrev pub Orders-have-no-fault : Type 0
+Orders-have-no-fault = (n : ℕ) (xs : List ℕ) → n ≤ 512 → (Order n xs → orderFault xs n ≡ None) × (orderFault xs n ≡ None → Order n xs)
 
 -- every lawful network and every order of its stations
 abbrev pub ForEveryOrder : (Net → List ℕ → Type 0) → Type 0

@@ -1,6 +1,13 @@
 //! The theory of elimination: each theorem is the contract of a function, so that nothing here stands without its proof.
 //! The statements are those of specs/Theorems.antt; each function answers 0.
-ghost use Rattle.elimination.specs.Theorems.{Any-station-last, End-vertex, Filled-by-paths, Filled-is-the-least-closed, Less-fill-leaves-a-spare-pair, Perfect-fills-within, Seats-without-new-fill, Spare-pairs-can-go, Without-spare-fill-minimal};
+ghost use Rattle.elimination.specs.Theorems.{Any-station-last, End-vertex, Filled-by-paths, Filled-is-the-least-closed, Less-fill-leaves-a-spare-pair, Orders-have-no-fault, Perfect-fills-within, Seats-without-new-fill, Spare-pairs-can-go, Without-spare-fill-minimal};
+
+/// The check of orders tells no fault exactly of lists that name each station once.
+pub fn orders_have_no_fault() -> u8
+    ensures { λ _. ⌜ Orders-have-no-fault ⌝ }
+{
+    0
+}
 
 /// The filled pairs contain the couplings, are closed under the order, and are the least such pairs.
 pub fn filled_is_the_least_closed() -> u8
