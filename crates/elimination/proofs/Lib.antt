@@ -11,3 +11,4 @@ pub mod Rows
 pub mod RowTests
 pub mod Walks
 pub mod Listing
+pub mod Leaving

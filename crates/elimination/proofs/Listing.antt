@@ -19,6 +19,8 @@ use Rattle.network.proofs.Faults.{cond-none, each-none, no-fault}
 use Rattle.network.proofs.Marks.{named-nowhere, unnamed}
 use Rattle.elimination.specs.Orders.{In, Distinct, Order, upTo, member, positionOf}
 use Rattle.elimination.specs.Kept.{Named, Found, Placed}
+use Rattle.elimination.specs.View.{listed}
+use Rattle.elimination.specs.declared.order.EliminationOrder.{EliminationOrder}
 use Rattle.elimination.proofs.Relations.{in-parts, in-left, in-right, in-upTo, upTo-in}
 use Rattle.elimination.proofs.Members.{in-member, member-in, in-kept, kept-in, distinct-kept, but, but-self, but-other, but-apart}
 
@@ -228,3 +230,11 @@ module _ (size : ℕ) (stations : List ℕ) (few : size ≤ length stations) (na
       let k : ℕ = getD positions s 0 in
       let lt : k < length (take size stations) = omega (arith, t .0) in
       sym (ap (positionOf (take size stations)) (sym (getD-take size stations k 0 (t .0) ∙ t .1)) ∙ position-of (take size stations) k (named-order .once) lt)
+
+-- ---- the order type
+
+pub order-of : (order : EliminationOrder) → Order (order .size) (listed order)
+order-of order = fault-order (listed order) (order .size) (none-from (orderFault (listed order) (order .size)) (order .named))
+
+pub listed-length : (order : EliminationOrder) → length (listed order) ≡ order .size
+listed-length order = order-length (order .size) (listed order) (order-of order)
