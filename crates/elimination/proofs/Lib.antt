@@ -12,3 +12,4 @@ pub mod RowTests
 pub mod Walks
 pub mod Listing
 pub mod Leaving
+pub mod Afterwards

@@ -4,8 +4,12 @@ mod filling;
 mod order;
 mod pair_set;
 pub mod theory;
+mod tree;
 mod words;
 
 pub use filling::filled_pairs;
 pub use order::EliminationOrder;
 pub use pair_set::PairSet;
+pub use tree::count_of;
+pub use tree::parent_of;
+pub use tree::total_of;

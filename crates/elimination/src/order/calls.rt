@@ -109,6 +109,7 @@ impl EliminationOrder {
     pub fn position(&self, station: u16) -> u16
         requires { ⌜ station < now self .size ⌝ }
         ensures value { λ r. ⌜ r ≡ positionOf (listed (now (self .entry))) station ⌝ }
+        ensures there { λ r. ⌜ getD (listed (now (self .entry))) r 0 ≡ station ⌝ }
         ensures small { λ r. ⌜ r < now (self .entry) .size ⌝ }
     {
         self.positions[station as usize]
