@@ -1,0 +1,15 @@
+pub mod Relations
+pub mod Members
+pub mod EndVertex
+pub mod Least
+pub mod Excess
+pub mod Removal
+pub mod Paths
+pub mod Lasts
+pub mod Statements
+pub mod Rows
+pub mod RowTests
+pub mod Walks
+pub mod Listing
+pub mod Leaving
+pub mod Afterwards

@@ -1,0 +1,18 @@
+use mathlib.Core.Path.{_≡_, sym, ap, _∙_}
+use mathlib.Core.List.{List, [], _∷_, _++_}
+use Prim.Native.Nat.{ℕ, suc, _<_, _+_}
+use native.Mathlib.Numerals.{add-one}
+use native.Mathlib.Omega.{arith}
+use lib.ListN.{length, take, length-set}
+use Rattle.std.proofs.shelf.Lists.{take-more-set}
+use Rattle.elimination.specs.Orders.{upTo}
+use Rattle.elimination.proofs.order.calls.rising_places.Needs as need
+
+pub loop-k-again : need.loop-k-again
+loop-k-again c =
+    let l : c .loop-k .k < length (c .loop-k .stations) = omega arith in (
+      take-more-set (c .loop-k .stations) (c .loop-k .k) (c .loop-k .k) l
+          ∙ ap (λ (ys : List ℕ). ys ++ (c .loop-k .k ∷ [])) (c .loop-k .inv .0)
+          ∙ ap upTo (sym (add-one (c .loop-k .k))),
+      length-set _ _ _ ∙ c .loop-k .inv .1,
+    )

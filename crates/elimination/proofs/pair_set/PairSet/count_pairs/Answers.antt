@@ -1,0 +1,26 @@
+use borrow.Author.Needs.{needs}
+use mathlib.Core.Path.{_≡_, sym, ap, _∙_}
+use Prim.Native.Nat.{ℕ, _+_, _*_, _≤_}
+use native.Mathlib.Omega.{arith}
+use Rattle.elimination.specs.Elimination.{pairs}
+use Rattle.elimination.specs.View.{graph}
+use Rattle.elimination.proofs.Walks.{count-lower, pairs-none, pairs-more, pairs-le}
+use Rattle.elimination.proofs.pair_set.PairSet.count_pairs.Needs as need
+
+pub loop-a-holds : need.loop-a-holds
+loop-a-holds c = sym (pairs-none (graph (c .args .self .now)))
+
+pub add-total : need.add-total
+add-total c = omega (arith, pairs-le (c .loop-a .a) (graph (c .args .self .now)) (omega arith), c .count-between-total .ensures .small)
+
+pub loop-a-again : need.loop-a-again
+loop-a-again c =
+    ap (λ (m : ℕ). m + c .count-between-total .result) (c .loop-a .inv)
+    ∙ ap (λ (m : ℕ). pairs (c .loop-a .a) (graph (c .args .self .now)) + m) (c .count-between-total .ensures .value ∙ count-lower (graph (c .args .self .now)) (c .loop-a .a) (omega arith))
+    ∙ sym (pairs-more (c .loop-a .a) (graph (c .args .self .now)))
+
+pub returns : need.returns
+returns c =
+    let e : c .loop-a .a ≡ c .args .n = omega arith in
+    let value : c .loop-a .total ≡ pairs (c .args .n) (graph (c .args .self .now)) = c .loop-a .inv ∙ ap (λ (m : ℕ). pairs m (graph (c .args .self .now))) e in
+    record { value = value; small = omega (arith, pairs-le (c .args .n) (graph (c .args .self .now)) (c .pre)) }

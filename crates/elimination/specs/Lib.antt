@@ -1,0 +1,7 @@
+pub mod Graphs
+pub mod Orders
+pub mod Elimination
+pub mod Theorems
+pub mod Words
+pub mod Kept
+pub mod View

@@ -1,0 +1,15 @@
+//! Elimination of stations: sets of pairs, orders, filled pairs, and the algorithms that find orders with little fill.
+//! An inner crate: the plan stands on it, and no user calls it.
+mod filling;
+mod order;
+mod pair_set;
+pub mod theory;
+mod tree;
+mod words;
+
+pub use filling::filled_pairs;
+pub use order::EliminationOrder;
+pub use pair_set::PairSet;
+pub use tree::count_of;
+pub use tree::parent_of;
+pub use tree::total_of;

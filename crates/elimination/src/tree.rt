@@ -1,0 +1,60 @@
+//! The elimination tree of an order and its counts, from the filled pairs.
+//! `couplings` and `pairs` are those of one network and order: `pairs` are the filled pairs of that order.
+ghost use mathlib.Core.Path.{_≡_};
+ghost use Prim.Native.Nat.{_<_, _≤_, _*_};
+ghost use Rattle.elimination.specs.Elimination.{count, filled, parent, total};
+ghost use Rattle.elimination.specs.Graphs.{Simple};
+ghost use Rattle.elimination.specs.View.{graph, listed};
+use crate::order::EliminationOrder;
+use crate::pair_set::PairSet;
+
+/// The earliest later station with which a station forms a filled pair, else the last one of the order; the last one has none.
+/// It looks at most at each later station once.
+pub fn parent_of(
+    couplings: &PairSet,
+    pairs: &PairSet,
+    order: &EliminationOrder,
+    station: u16,
+) -> Option<u16>
+    requires known { ⌜ station < now order .size ⌝ }
+    requires pairs { ⌜ graph (now pairs) ≡ filled (graph (now couplings)) (listed (now order)) ⌝ }
+    ensures { λ r. ⌜ r ≡ parent (graph (now (couplings .entry))) (listed (now (order .entry))) station ⌝ }
+{
+    let size = order.size();
+    let first = order.position(station) + 1;
+    for k in first..size {
+        let other = order.station(k);
+        if pairs.contains(station as usize, other as usize) {
+            return Some(other);
+        }
+    }
+    if first < size {
+        Some(order.station(size - 1))
+    } else {
+        None
+    }
+}
+
+/// How many filled pairs a station forms with later ones. It looks at each later station once.
+pub fn count_of(couplings: &PairSet, pairs: &PairSet, order: &EliminationOrder, station: u16) -> u16
+    requires known { ⌜ station < now order .size ⌝ }
+    requires pairs { ⌜ graph (now pairs) ≡ filled (graph (now couplings)) (listed (now order)) ⌝ }
+    ensures { λ r. ⌜ r ≡ count (graph (now (couplings .entry))) (listed (now (order .entry))) station ⌝ }
+{
+    let mut found = 0;
+    for k in order.position(station) + 1..order.size() {
+        if pairs.contains(station as usize, order.station(k) as usize) {
+            found += 1;
+        }
+    }
+    found
+}
+
+/// How many fill pairs the order has: sixteen word steps for each station.
+pub fn total_of(couplings: &PairSet, pairs: &PairSet, order: &EliminationOrder) -> u32
+    requires { ⌜ graph (now pairs) ≡ filled (graph (now couplings)) (listed (now order)) ⌝ }
+    ensures { λ r. ⌜ r ≡ total (now (order .entry) .size) (graph (now (couplings .entry))) (listed (now (order .entry))) ⌝ }
+{
+    let size = order.size() as usize;
+    pairs.count_pairs(size) - couplings.count_pairs(size)
+}
