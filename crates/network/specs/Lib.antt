@@ -3,3 +3,5 @@ pub mod Net
 pub mod Bits
 pub mod Orders
 pub mod Laws
+pub mod Lists
+pub mod ListLaws
