@@ -1,9 +1,11 @@
 //! Networks of gauge stations: refusals, the questions that a network answers,
 //! and the packed sheets and neighbour lists that networks are read from.
+mod list_network;
 mod net;
 mod refusal;
 
 ghost use Rattle.network.specs.Laws.{Next-is-smallest};
+pub use list_network::ListNetwork;
 pub use net::Network;
 pub use refusal::Refusal;
 
