@@ -9,6 +9,7 @@ use native.Mathlib.Numerals.{add-one}
 use native.Mathlib.Omega.{arith}
 use lib.Dec.{leb, ltb, eqb}
 use lib.ListN.{length, getD}
+use Rattle.std.specs.Options.{isSome}
 use Rattle.std.specs.declared.option.Option.{Option}
 use Rattle.std.specs.declared.option.Option.the-variants.{Some, None}
 use Rattle.std.proofs.shelf.Tests.{cases-lt, cases-eq, cases-bool, eq-eqb, ne-eqb, eqb-true, eqb-false, lt-ltb, ltb-true, leb-true, and-parts, and-from, or-cases, or-left, or-right, not-true, both-ways}
@@ -165,20 +166,31 @@ pub name-none : (starts names : List ℕ) (n : ℕ) → firstFault (rowFault sta
     → (s k : ℕ) → s < n → getD starts s 0 ≤ k → k < getD starts (s + 1) 0 → nameFits names (listSize starts) (getD starts s 0) s k ≡ true
 name-none starts names n h s k hs low high = passed _ None 11 k (rows-none starts (nameFault starts names) n h s k hs low high) .0
 
-pub well-formed : (starts names : List ℕ) → listsFault starts names ≡ None → WellFormed starts names
+-- no check found a fault
+pub checks-passed : (starts names : List ℕ) → listsFault starts names ≡ None
+    → (2 ≤ length starts)
+    × (length starts ≤ 513)
+    × (firstFault (startFault starts (length names)) (length starts) ≡ None)
+    × (rowsFault starts (nameFault starts names) ≡ None)
+    × (rowsFault starts (oneSidedFault starts names) ≡ None)
 unfolding listsFault
-well-formed starts names none =
-    let n = listSize starts in
+checks-passed starts names none =
     let counted = passed (leb 2 (length starts) && leb (length starts) 513) _ 9 (length starts) none in
     let parts = and-parts (leb 2 (length starts)) (leb (length starts) 513) (counted .0) in
-    let some : 2 ≤ length starts = leb-true _ _ (parts .0) in
     let begun = neither (firstFault (startFault starts (length names)) (length starts)) _ (counted .1) in
     let named = neither (rowsFault starts (nameFault starts names)) (rowsFault starts (oneSidedFault starts names)) (begun .1) in
-    let fits = start-none starts names (begun .0) in
-    let name : (s k : ℕ) → InList starts s k → nameFits names n (getD starts s 0) s k ≡ true = λ s k i. name-none starts names n (named .0) s k (i .0) (i .1) (i .2) in
+    (leb-true _ _ (parts .0), leb-true _ _ (parts .1), begun .0, named .0, named .1)
+
+pub well-formed : (starts names : List ℕ) → listsFault starts names ≡ None → WellFormed starts names
+well-formed starts names none =
+    let n = listSize starts in
+    let all = checks-passed starts names none in
+    let some : 2 ≤ length starts = all .0 in
+    let fits = start-none starts names (all .2) in
+    let name : (s k : ℕ) → InList starts s k → nameFits names n (getD starts s 0) s k ≡ true = λ s k i. name-none starts names n (all .3) s k (i .0) (i .1) (i .2) in
     record {
       some = some;
-      few = leb-true _ _ (parts .1);
+      few = all .1;
       first = starts-first starts (length names) (fits 0 (omega arith));
       onward = λ s h. starts-onward starts (length names) s (fits (s + 1) (omega arith));
       last = starts-last starts (length names) n (omega arith) (fits n (omega arith));
@@ -194,7 +206,7 @@ well-formed starts names none =
           (l .2);
       bothSides = λ a b p.
           let there : namedIn starts names (getD names (p .0) 0) a ≡ true =
-          passed _ None 12 (p .0) (rows-none starts (oneSidedFault starts names) n (named .1) a (p .0) (p .1 .0) (p .1 .1) (p .1 .2)) .0 in
+          passed _ None 12 (p .0) (rows-none starts (oneSidedFault starts names) n (all .4) a (p .0) (p .1 .0) (p .1 .1) (p .1 .2)) .0 in
           let known : getD names (p .0) 0 < n = name-fits names n (getD starts a 0) a (p .0) (name a (p .0) (p .1)) .0 in
           named-at starts names b a (omega (arith, known, p .2)) (ap (λ (x : ℕ). namedIn starts names x a) (sym (p .2)) ∙ there);
     }
@@ -218,9 +230,13 @@ same-truth true y f g = sym (f refl)
 same-truth false true f g = g refl
 same-truth false false f g = refl
 
-pub list-lawful : (starts names : List ℕ) → listsFault starts names ≡ None → Lawful (listNet starts names)
+pub no-fault : (o : Option Fault) → isSome o ≡ false → o ≡ None
+no-fault (Some f) h = absurd (both-ways true h refl)
+no-fault None h = refl
+
+pub list-lawful : (starts names : List ℕ) → isSome (listsFault starts names) ≡ false → Lawful (listNet starts names)
 list-lawful starts names none =
-    let w = well-formed starts names none in
+    let w = well-formed starts names (no-fault (listsFault starts names) none) in
     let turned : (a b : ℕ) → listNet starts names .coupled a b ≡ true → listNet starts names .coupled b a ≡ true =
     λ a b h. named-coupled starts names w b a (w .bothSides a b (coupled-named starts names a b h)) in
     record {

@@ -22,6 +22,23 @@ pub struct ListNetwork<'a> {
     ghost faultless: { isSome (listsFault (now starts) (now names)) ≡ false },
 }
 
+static STARTS: [u32; 2] = [0, 0];
+
+static NAMES: [u16; 0] = [];
+
+impl<'a> ListNetwork<'a> {
+    /// A place that holds one lone station, until a reading into it is accepted.
+    pub fn lone() -> ListNetwork<'static>
+        ensures starts { λ r. ⌜ now (r .starts) ≡ 0 ∷ 0 ∷ [] ⌝ }
+        ensures names { λ r. ⌜ now (r .names) ≡ [] ⌝ }
+    {
+        ListNetwork {
+            starts: &STARTS,
+            names: &NAMES,
+        }
+    }
+}
+
 // Whether the list of station `a` names `b`. The names of a list rise, so a search by halves finds it.
 pub(crate) fn is_named(starts: &[u32], names: &[u16], a: u16, b: u16) -> bool
     requires station { ⌜ a < listSize (now starts) ⌝ }
@@ -32,4 +49,20 @@ pub(crate) fn is_named(starts: &[u32], names: &[u16], a: u16, b: u16) -> bool
     let low = starts[a as usize] as usize;
     let high = starts[a as usize + 1] as usize;
     names[low..high].binary_search(&b).is_ok()
+}
+
+pub impl<'a> Network for ListNetwork<'a> as ListNetworkNetwork {
+    ghost meaning = { λ network. listNet (now (network .starts)) (now (network .names)) };
+
+    ghost lawful = { λ network. list-lawful (now (network .starts)) (now (network .names)) (network .faultless) };
+
+    fn size(&self) -> u16 {
+        (self.starts.len() - 1) as u16
+    }
+
+    // The search takes as many steps as the list of `a` can be halved.
+    fn coupled(&self, a: u16, b: u16) -> bool {
+        let size = self.size();
+        a < size && b < size && is_named(self.starts, self.names, a, b)
+    }
 }
