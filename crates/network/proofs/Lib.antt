@@ -1,3 +1,4 @@
 pub mod Bits
 pub mod Nexts
+pub mod ListFaults
 pub mod ListRows

@@ -1,0 +1,77 @@
+//! Reading neighbour lists into a network place: the checks in their order, then the place.
+//! The names are walked twice: first each by itself, then each against the other station's list.
+ghost use mathlib.Core.Path.{_≡_};
+ghost use Prim.Native.Nat.{ℕ, _+_, _-_, _<_, _≤_};
+ghost use lib.ListN.{length};
+ghost use Rattle.std.specs.declared.option.Option.the-variants.{None};
+ghost use Rattle.network.specs.Refusals.{outcome, unless, firstFault};
+ghost use Rattle.network.specs.Lists.{listSize, startFits, startFault, nameFits, nameFault, oneSidedFault, rowFault, rowsFault, listsFault};
+use crate::list_network::is_named;
+use crate::refusal::Refusal;
+
+// Whether the start at `i` fits the one before it and, at the end, the number of the names.
+fn start_fits(starts: &[u32], count: usize, i: usize) -> bool
+    requires { ⌜ i < length (now starts) ⌝ }
+    ensures { λ r. ⌜ r ≡ startFits (now (starts .entry)) count i ⌝ }
+{
+    let start = starts[i];
+    let rises = if i == 0 {
+        start == 0
+    } else {
+        starts[i - 1] <= start
+    };
+    rises && (i + 1 < starts.len() || start as usize == count)
+}
+
+// Goes once through the starts.
+fn check_starts(starts: &[u32], count: usize) -> Result<(), Refusal>
+    ensures { λ r. ⌜ outcome r ≡ unless (firstFault (startFault (now (starts .entry)) count) (length (now (starts .entry)))) tt ⌝ }
+{
+    for i in 0..starts.len() {
+        if !start_fits(starts, count, i) {
+            return Err(Refusal::NoStart(i));
+        }
+    }
+    Ok(())
+}
+
+// Whether the name at `k`, in the list of `station` from `low` on, is another station and above the name before it.
+fn name_fits(names: &[u16], size: u16, low: usize, station: u16, k: usize) -> bool
+    requires { ⌜ low ≤ k ⌝ ∗ ⌜ k < length (now names) ⌝ }
+    ensures { λ r. ⌜ r ≡ nameFits (now (names .entry)) size low station k ⌝ }
+{
+    let name = names[k];
+    name < size && name != station && (k == low || names[k - 1] < name)
+}
+
+// Goes once through the names of one station.
+fn check_names_of(starts: &[u32], names: &[u16], station: u16) -> Result<(), Refusal>
+    requires station { ⌜ station < listSize (now starts) ⌝ }
+    requires few { ⌜ length (now starts) ≤ 513 ⌝ }
+    requires starts { ⌜ firstFault (startFault (now starts) (length (now names))) (length (now starts)) ≡ None ⌝ }
+    ensures { λ r. ⌜ outcome r ≡ unless (rowFault (now (starts .entry)) (nameFault (now (starts .entry)) (now (names .entry))) station) tt ⌝ }
+{
+    let size = (starts.len() - 1) as u16;
+    let low = starts[station as usize] as usize;
+    let high = starts[station as usize + 1] as usize;
+    for k in low..high {
+        if !name_fits(names, size, low, station, k) {
+            return Err(Refusal::NoName(k));
+        }
+    }
+    Ok(())
+}
+
+// Goes once through the names of all stations.
+fn check_names(starts: &[u32], names: &[u16]) -> Result<(), Refusal>
+    requires some { ⌜ 2 ≤ length (now starts) ⌝ }
+    requires few { ⌜ length (now starts) ≤ 513 ⌝ }
+    requires starts { ⌜ firstFault (startFault (now starts) (length (now names))) (length (now starts)) ≡ None ⌝ }
+    ensures { λ r. ⌜ outcome r ≡ unless (rowsFault (now (starts .entry)) (nameFault (now (starts .entry)) (now (names .entry)))) tt ⌝ }
+{
+    let size = (starts.len() - 1) as u16;
+    for station in 0..size {
+        check_names_of(starts, names, station)?;
+    }
+    Ok(())
+}
