@@ -3,9 +3,12 @@
 ghost use mathlib.Core.Path.{_≡_};
 ghost use Prim.Native.Nat.{ℕ, _+_, _-_, _<_, _≤_};
 ghost use lib.ListN.{length};
+ghost use Rattle.std.specs.Results.{Cases};
 ghost use Rattle.std.specs.declared.option.Option.the-variants.{None};
 ghost use Rattle.network.specs.Refusals.{outcome, unless, firstFault};
-ghost use Rattle.network.specs.Lists.{listSize, startFits, startFault, nameFits, nameFault, oneSidedFault, rowFault, rowsFault, listsFault};
+ghost use Rattle.network.specs.Lists.{listSize, listNet, startFits, startFault, nameFits, nameFault, oneSidedFault, rowFault, rowsFault, listsFault};
+ghost use Rattle.network.specs.ListLaws.{Faultless-lists-are-well-formed, Coupled-stations-are-named};
+use crate::list_network::ListNetwork;
 use crate::list_network::is_named;
 use crate::refusal::Refusal;
 
@@ -74,4 +77,80 @@ fn check_names(starts: &[u32], names: &[u16]) -> Result<(), Refusal>
         check_names_of(starts, names, station)?;
     }
     Ok(())
+}
+
+// Looks up one station in the list of each station that it names: a search by halves for each name.
+fn check_both_sides_of(starts: &[u32], names: &[u16], station: u16) -> Result<(), Refusal>
+    requires station { ⌜ station < listSize (now starts) ⌝ }
+    requires starts { ⌜ firstFault (startFault (now starts) (length (now names))) (length (now starts)) ≡ None ⌝ }
+    requires names { ⌜ rowsFault (now starts) (nameFault (now starts) (now names)) ≡ None ⌝ }
+    ensures { λ r. ⌜ outcome r ≡ unless (rowFault (now (starts .entry)) (oneSidedFault (now (starts .entry)) (now (names .entry))) station) tt ⌝ }
+{
+    let low = starts[station as usize] as usize;
+    let high = starts[station as usize + 1] as usize;
+    for k in low..high {
+        if !is_named(starts, names, names[k], station) {
+            return Err(Refusal::OneSided(k));
+        }
+    }
+    Ok(())
+}
+
+// Looks up every station so.
+fn check_both_sides(starts: &[u32], names: &[u16]) -> Result<(), Refusal>
+    requires some { ⌜ 2 ≤ length (now starts) ⌝ }
+    requires few { ⌜ length (now starts) ≤ 513 ⌝ }
+    requires starts { ⌜ firstFault (startFault (now starts) (length (now names))) (length (now starts)) ≡ None ⌝ }
+    requires names { ⌜ rowsFault (now starts) (nameFault (now starts) (now names)) ≡ None ⌝ }
+    ensures { λ r. ⌜ outcome r ≡ unless (rowsFault (now (starts .entry)) (oneSidedFault (now (starts .entry)) (now (names .entry)))) tt ⌝ }
+{
+    let size = (starts.len() - 1) as u16;
+    for station in 0..size {
+        check_both_sides_of(starts, names, station)?;
+    }
+    Ok(())
+}
+
+// All checks, in their order.
+fn check_lists(starts: &[u32], names: &[u16]) -> Result<(), Refusal>
+    ensures { λ r. ⌜ outcome r ≡ unless (listsFault (now (starts .entry)) (now (names .entry))) tt ⌝ }
+{
+    let count = starts.len();
+    if count < 2 || count > 513 {
+        return Err(Refusal::StartsLength(count));
+    }
+    check_starts(starts, names.len())?;
+    check_names(starts, names)?;
+    check_both_sides(starts, names)
+}
+
+/// Reads neighbour lists into the place: on success the place stands on them, on a refusal it stays as it was.
+/// The starts are walked once, the names twice, the second time with a search by halves for each.
+pub fn read_lists<'a>(
+    starts: &'a [u32],
+    names: &'a [u16],
+    place: &mut ListNetwork<'a>,
+) -> Result<(), Refusal>
+    ensures answer { λ r. ⌜ outcome r ≡ unless (listsFault (now (starts .entry)) (now (names .entry))) tt ⌝ }
+    ensures place { λ r. ⌜ Cases r (λ _. (now (now (place .exit) .starts) ≡ now (starts .entry)) × (now (now (place .exit) .names) ≡ now (names .entry))) (λ _. now (place .exit) ≡ now (place .entry)) ⌝ }
+    ensures meaning { λ r. ⌜ Cases r (λ _. listNet (now (now (place .exit) .starts)) (now (now (place .exit) .names)) ≡ listNet (now (starts .entry)) (now (names .entry))) (λ _. listNet (now (now (place .exit) .starts)) (now (now (place .exit) .names)) ≡ listNet (now (now (place .entry) .starts)) (now (now (place .entry) .names))) ⌝ }
+{
+    check_lists(starts, names)?;
+    *place = ListNetwork { starts, names };
+    Ok(())
+}
+
+/// Lists without a fault are just the well formed ones: every name is another station, the names of a list rise,
+/// and every coupling is named from both sides.
+pub fn faultless_lists_are_well_formed() -> u8
+    ensures { λ _. ⌜ Faultless-lists-are-well-formed ⌝ }
+{
+    0
+}
+
+/// In the network of well formed lists two stations are coupled just where the list of the one names the other.
+pub fn coupled_stations_are_named() -> u8
+    ensures { λ _. ⌜ Coupled-stations-are-named ⌝ }
+{
+    0
 }
