@@ -10,10 +10,10 @@ use Rattle.std.specs.declared.option.Option.{Option}
 use Rattle.std.specs.declared.option.Option.the-variants.{Some, None}
 use Rattle.std.specs.declared.result.Result.{Result}
 use Rattle.std.specs.declared.result.Result.the-variants.{Ok, Err}
-use Rattle.std.proofs.shelf.Tests.{cases-lt, cond-true, and-from, le-leb}
+use Rattle.std.proofs.shelf.Tests.{cases-lt}
 use Rattle.network.specs.declared.refusal.Refusal.{Refusal}
 use Rattle.network.specs.Refusals.{Fault, told, outcome, orElse, firstFault, unless}
-use Rattle.network.specs.Lists.{startFault, nameFault, oneSidedFault, rowsFault, listsFault}
+use Rattle.network.specs.Lists.{startsLengthFault, startFault, nameFault, oneSidedFault, rowsFault, listsFault}
 use Rattle.network.specs.ListLaws.{found-none}
 
 pub none-orElse : (x y : Option Fault) → x ≡ None → y ≡ None → orElse x y ≡ None
@@ -89,30 +89,25 @@ was-err None f h = absurd (let z : _≡_ {A = ℕ} 0 1 = cc in omega arith)
 
 -- ---- the checks of two lists, one after the other
 
-lists-counted : (starts names : List ℕ) → 2 ≤ length starts → length starts ≤ 513
-    → listsFault starts names
-    ≡ orElse (firstFault (startFault starts (length names)) (length starts))
-    (orElse (rowsFault starts (nameFault starts names)) (rowsFault starts (oneSidedFault starts names)))
+pub lists-length : (starts names : List ℕ) (f : Fault) → startsLengthFault starts ≡ Some f → listsFault starts names ≡ Some f
 unfolding listsFault
-lists-counted starts names some few = cond-true _ _ _ (and-from _ _ (le-leb _ _ some) (le-leb _ _ few))
+lists-length starts names f h = orElse-some _ _ f h
 
-pub lists-start : (starts names : List ℕ) (f : Fault) → 2 ≤ length starts → length starts ≤ 513
+pub lists-start : (starts names : List ℕ) (f : Fault) → startsLengthFault starts ≡ None
     → firstFault (startFault starts (length names)) (length starts) ≡ Some f → listsFault starts names ≡ Some f
-lists-start starts names f some few h = lists-counted starts names some few ∙ orElse-some _ _ f h
+unfolding listsFault
+lists-start starts names f long h = orElse-past _ _ long ∙ orElse-some _ _ f h
 
-lists-started : (starts names : List ℕ) → 2 ≤ length starts → length starts ≤ 513
-    → firstFault (startFault starts (length names)) (length starts) ≡ None
-    → listsFault starts names ≡ orElse (rowsFault starts (nameFault starts names)) (rowsFault starts (oneSidedFault starts names))
-lists-started starts names some few h = lists-counted starts names some few ∙ orElse-past _ _ h
-
-pub lists-name : (starts names : List ℕ) (f : Fault) → 2 ≤ length starts → length starts ≤ 513
+pub lists-name : (starts names : List ℕ) (f : Fault) → startsLengthFault starts ≡ None
     → firstFault (startFault starts (length names)) (length starts) ≡ None
     → rowsFault starts (nameFault starts names) ≡ Some f
     → listsFault starts names ≡ Some f
-lists-name starts names f some few h g = lists-started starts names some few h ∙ orElse-some _ _ f g
+unfolding listsFault
+lists-name starts names f long h g = orElse-past _ _ long ∙ orElse-past _ _ h ∙ orElse-some _ _ f g
 
-pub lists-named : (starts names : List ℕ) → 2 ≤ length starts → length starts ≤ 513
+pub lists-named : (starts names : List ℕ) → startsLengthFault starts ≡ None
     → firstFault (startFault starts (length names)) (length starts) ≡ None
     → rowsFault starts (nameFault starts names) ≡ None
     → listsFault starts names ≡ rowsFault starts (oneSidedFault starts names)
-lists-named starts names some few h g = lists-started starts names some few h ∙ orElse-past _ _ g
+unfolding listsFault
+lists-named starts names long h g = orElse-past _ _ long ∙ orElse-past _ _ h ∙ orElse-past _ _ g

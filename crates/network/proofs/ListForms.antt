@@ -20,7 +20,6 @@ unfolding rowFault
 rows-all starts found none = walk-all (rowFault starts found) (listSize starts) (λ s h. walk-all (λ j. found s (getD starts s 0 + j)) _ (λ j l. none s (getD starts s 0 + j) (h, omega arith, omega arith)))
 
 start-fits : (starts names : List ℕ) → WellFormed starts names → (i : ℕ) → i < length starts → startFits starts (length names) i ≡ true
-unfolding startFits
 start-fits starts names w i h = and-from _ _ (onward i h) (ends i h)
   where
     onward : (i : ℕ) → i < length starts → cond (eqb i 0) (eqb (getD starts i 0) 0) (leb (getD starts (i - 1) 0) (getD starts i 0)) ≡ true
@@ -39,7 +38,6 @@ start-fits starts names w i h = and-from _ _ (onward i h) (ends i h)
         (cases-lt (i + 1) (length starts))
 
 name-fits : (starts names : List ℕ) → WellFormed starts names → (s k : ℕ) → InList starts s k → nameFits names (listSize starts) (getD starts s 0) s k ≡ true
-unfolding nameFits
 name-fits starts names w s k i =
     and-from _ _ (and-from _ _ (lt-ltb _ _ (w .known s k i)) (not-from-false _ (ne-eqb _ _ (w .other s k i))))
     (⊎-elim (λ first. or-left _ _ (eq-eqb _ _ first))
@@ -48,7 +46,7 @@ name-fits starts names w s k i =
 
 pub faultless : (starts names : List ℕ) → WellFormed starts names → listsFault starts names ≡ None
 faultless starts names w =
-    lists-named starts names (w .some) (w .few)
+    lists-named starts names (cond-true _ _ _ (and-from _ _ (le-leb _ _ (w .some)) (le-leb _ _ (w .few))))
     (walk-all (startFault starts (length names)) (length starts) (λ i h. cond-true _ _ _ (start-fits starts names w i h)))
     (rows-all starts (nameFault starts names) (λ s k i. cond-true _ _ _ (name-fits starts names w s k i)))
     ∙ rows-all starts (oneSidedFault starts names)

@@ -16,7 +16,7 @@ use Rattle.std.proofs.shelf.Tests.{cases-lt, cases-eq, cases-bool, eq-eqb, ne-e
 use Rattle.std.proofs.shelf.Ways.{tells}
 use Rattle.network.specs.Net.{Net, Lawful}
 use Rattle.network.specs.Refusals.{Fault, refuse, orElse, firstFault}
-use Rattle.network.specs.Lists.{listSize, amongNames, namedIn, listNet, startFits, startFault, nameFits, nameFault, oneSidedFault, rowFault, rowsFault, listsFault}
+use Rattle.network.specs.Lists.{listSize, amongNames, namedIn, listNet, startsLengthFault, startFits, startFault, nameFits, nameFault, oneSidedFault, rowFault, rowsFault, listsFault}
 
 -- the name at k stands in the list of station s
 abbrev pub InList : List ℕ → ℕ → ℕ → Type 0
@@ -122,11 +122,9 @@ pub start-none : (starts names : List ℕ) → firstFault (startFault starts (le
 start-none starts names h i lt = passed _ None 10 i (each-none (startFault starts (length names)) (length starts) h i lt) .0
 
 pub starts-first : (starts : List ℕ) (count : ℕ) → startFits starts count 0 ≡ true → getD starts 0 0 ≡ 0
-unfolding startFits
 starts-first starts count h = eqb-true _ _ (and-parts (eqb (getD starts 0 0) 0) _ h .0)
 
 pub starts-onward : (starts : List ℕ) (count s : ℕ) → startFits starts count (s + 1) ≡ true → getD starts s 0 ≤ getD starts (s + 1) 0
-unfolding startFits
 starts-onward starts count s h =
     let e : s + 1 - 1 ≡ s = omega arith in
     let z : eqb (s + 1) 0 ≡ false = ne-eqb _ _ (λ q. omega arith) in
@@ -134,14 +132,12 @@ starts-onward starts count s h =
     leb-true _ _ (rw (z, e) at (both .0))
 
 pub starts-last : (starts : List ℕ) (count i : ℕ) → length starts ≤ i + 1 → startFits starts count i ≡ true → getD starts i 0 ≡ count
-unfolding startFits
 starts-last starts count i past h =
     let both = and-parts (cond (eqb i 0) (eqb (getD starts i 0) 0) (leb (getD starts (i - 1) 0) (getD starts i 0))) (ltb (i + 1) (length starts) || eqb (getD starts i 0) count) h in
     ⊎-elim (λ inside. absurd (omega (arith, ltb-true _ _ inside))) (λ here. eqb-true _ _ here) (or-cases (ltb (i + 1) (length starts)) _ (both .1))
 
 pub name-fits : (names : List ℕ) (n low s k : ℕ) → nameFits names n low s k ≡ true
     → (getD names k 0 < n) × (getD names k 0 ≡ s → ⊥) × (low < k → getD names (k - 1) 0 < getD names k 0)
-unfolding nameFits
 name-fits names n low s k h =
     let both = and-parts (ltb (getD names k 0) n && not (eqb (getD names k 0) s)) (eqb k low || ltb (getD names (k - 1) 0) (getD names k 0)) h in
     let own = and-parts (ltb (getD names k 0) n) (not (eqb (getD names k 0) s)) (both .0) in (
@@ -175,8 +171,9 @@ pub checks-passed : (starts names : List ℕ) → listsFault starts names ≡ No
     × (rowsFault starts (oneSidedFault starts names) ≡ None)
 unfolding listsFault
 checks-passed starts names none =
-    let counted = passed (leb 2 (length starts) && leb (length starts) 513) _ 9 (length starts) none in
-    let parts = and-parts (leb 2 (length starts)) (leb (length starts) 513) (counted .0) in
+    let counted = neither (startsLengthFault starts) _ none in
+    let in-range = passed (leb 2 (length starts) && leb (length starts) 513) None 9 (length starts) (counted .0) .0 in
+    let parts = and-parts (leb 2 (length starts)) (leb (length starts) 513) in-range in
     let begun = neither (firstFault (startFault starts (length names)) (length starts)) _ (counted .1) in
     let named = neither (rowsFault starts (nameFault starts names)) (rowsFault starts (oneSidedFault starts names)) (begun .1) in
     (leb-true _ _ (parts .0), leb-true _ _ (parts .1), begun .0, named .0, named .1)

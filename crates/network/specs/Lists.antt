@@ -30,8 +30,12 @@ listNet starts names = record {
   coupled = λ a b. (ltb a (listSize starts) && ltb b (listSize starts)) && namedIn starts names a b;
 }
 
+-- there are starts for 1 to 512 stations
+abbrev pub startsLengthFault : List ℕ → Option Fault
+startsLengthFault starts = cond (leb 2 (length starts) && leb (length starts) 513) None (refuse 9 (length starts))
+
 -- the first start is 0, a later one is not below the one before it, and the last is the number of the names
-unfoldable pub startFits : List ℕ → ℕ → ℕ → Bool
+abbrev pub startFits : List ℕ → ℕ → ℕ → Bool
 startFits starts count i =
     cond (eqb i 0) (eqb (getD starts i 0) 0) (leb (getD starts (i - 1) 0) (getD starts i 0))
     && (ltb (i + 1) (length starts) || eqb (getD starts i 0) count)
@@ -40,7 +44,7 @@ abbrev pub startFault : List ℕ → ℕ → ℕ → Option Fault
 startFault starts count i = cond (startFits starts count i) None (refuse 10 i)
 
 -- in the list of station s, which begins at low, the name at k is another of the n stations, above the name before it
-unfoldable pub nameFits : List ℕ → ℕ → ℕ → ℕ → ℕ → Bool
+abbrev pub nameFits : List ℕ → ℕ → ℕ → ℕ → ℕ → Bool
 nameFits names n low s k =
     (ltb (getD names k 0) n && not (eqb (getD names k 0) s)) && (eqb k low || ltb (getD names (k - 1) 0) (getD names k 0))
 
@@ -62,7 +66,6 @@ rowsFault starts found = firstFault (rowFault starts found) (listSize starts)
 -- the first fault of two lists, in the order of the checks
 unfoldable pub listsFault : List ℕ → List ℕ → Option Fault
 listsFault starts names =
-    cond (leb 2 (length starts) && leb (length starts) 513)
+    orElse (startsLengthFault starts)
     (orElse (firstFault (startFault starts (length names)) (length starts))
     (orElse (rowsFault starts (nameFault starts names)) (rowsFault starts (oneSidedFault starts names))))
-    (refuse 9 (length starts))

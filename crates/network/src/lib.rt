@@ -7,6 +7,7 @@ mod refusal;
 
 ghost use Rattle.network.specs.Laws.{Next-is-smallest};
 pub use list_network::ListNetwork;
+pub use list_network::ListNetworkNetwork;
 pub use lists::coupled_stations_are_named;
 pub use lists::faultless_lists_are_well_formed;
 pub use lists::read_lists;

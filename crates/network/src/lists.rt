@@ -6,11 +6,23 @@ ghost use lib.ListN.{length};
 ghost use Rattle.std.specs.Results.{Cases};
 ghost use Rattle.std.specs.declared.option.Option.the-variants.{None};
 ghost use Rattle.network.specs.Refusals.{outcome, unless, firstFault};
-ghost use Rattle.network.specs.Lists.{listSize, listNet, startFits, startFault, nameFits, nameFault, oneSidedFault, rowFault, rowsFault, listsFault};
+ghost use Rattle.network.specs.Lists.{listSize, listNet, startsLengthFault, startFits, startFault, nameFits, nameFault, oneSidedFault, rowFault, rowsFault, listsFault};
 ghost use Rattle.network.specs.ListLaws.{Faultless-lists-are-well-formed, Coupled-stations-are-named};
 use crate::list_network::ListNetwork;
 use crate::list_network::is_named;
 use crate::refusal::Refusal;
+
+// Whether there are starts for 1 to 512 stations.
+fn check_length(starts: &[u32]) -> Result<(), Refusal>
+    ensures answer { λ r. ⌜ outcome r ≡ unless (startsLengthFault (now (starts .entry))) tt ⌝ }
+    ensures range { λ r. ⌜ Cases r (λ _. (2 ≤ length (now (starts .entry))) × (length (now (starts .entry)) ≤ 513)) (λ _. Unit {0}) ⌝ }
+{
+    let count = starts.len();
+    if count < 2 || count > 513 {
+        return Err(Refusal::StartsLength(count));
+    }
+    Ok(())
+}
 
 // Whether the start at `i` fits the one before it and, at the end, the number of the names.
 fn start_fits(starts: &[u32], count: usize, i: usize) -> bool
@@ -115,10 +127,7 @@ fn check_both_sides(starts: &[u32], names: &[u16]) -> Result<(), Refusal>
 fn check_lists(starts: &[u32], names: &[u16]) -> Result<(), Refusal>
     ensures { λ r. ⌜ outcome r ≡ unless (listsFault (now (starts .entry)) (now (names .entry))) tt ⌝ }
 {
-    let count = starts.len();
-    if count < 2 || count > 513 {
-        return Err(Refusal::StartsLength(count));
-    }
+    check_length(starts)?;
     check_starts(starts, names.len())?;
     check_names(starts, names)?;
     check_both_sides(starts, names)
