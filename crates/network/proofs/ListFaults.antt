@@ -3,7 +3,6 @@ use mathlib.Core.Path.{_≡_, refl, sym, ap, _∙_}
 use mathlib.Core.List.{List}
 use mathlib.Core.Logic.{⊎-elim}
 use Prim.Native.Nat.{ℕ, zero, suc, _+_, _-_, _<_, _≤_}
-use native.Mathlib.Numerals.{add-one}
 use native.Mathlib.Omega.{arith}
 use lib.ListN.{length}
 use Rattle.std.specs.declared.option.Option.{Option}
@@ -11,8 +10,7 @@ use Rattle.std.specs.declared.option.Option.the-variants.{Some, None}
 use Rattle.std.specs.declared.result.Result.{Result}
 use Rattle.std.specs.declared.result.Result.the-variants.{Ok, Err}
 use Rattle.std.proofs.shelf.Tests.{cases-lt}
-use Rattle.network.specs.declared.refusal.Refusal.{Refusal}
-use Rattle.network.specs.Refusals.{Fault, told, outcome, orElse, firstFault, unless}
+use Rattle.network.specs.Refusals.{Fault, orElse, firstFault, unless}
 use Rattle.network.specs.Lists.{startsLengthFault, startFault, nameFault, oneSidedFault, rowsFault, listsFault}
 use Rattle.network.specs.ListLaws.{found-none}
 

@@ -1,6 +1,6 @@
 -- Well formed lists have no fault, and what that says of their couplings.
-use mathlib.Core.Path.{_≡_, refl, sym, ap, _∙_}
-use mathlib.Core.Bool.{Bool, true, false, cond, not, _&&_, _||_}
+use mathlib.Core.Path.{_≡_, refl, ap, _∙_}
+use mathlib.Core.Bool.{true, cond, _||_}
 use mathlib.Core.List.{List}
 use mathlib.Core.Logic.{⊎-elim}
 use Prim.Native.Nat.{ℕ, zero, suc, _+_, _-_, _<_, _≤_}
@@ -10,9 +10,9 @@ use lib.ListN.{length, getD}
 use Rattle.std.specs.declared.option.Option.{Option}
 use Rattle.std.specs.declared.option.Option.the-variants.{None}
 use Rattle.std.proofs.shelf.Tests.{cases-lt, cases-eq, cond-true, cond-false, and-from, or-left, or-right, eq-eqb, ne-eqb, lt-ltb, le-leb, not-from-false}
-use Rattle.network.specs.Refusals.{Fault, firstFault}
+use Rattle.network.specs.Refusals.{Fault}
 use Rattle.network.specs.Lists.{listSize, startFits, startFault, nameFits, nameFault, oneSidedFault, rowFault, rowsFault, listsFault}
-use Rattle.network.specs.ListLaws.{InList, Names, WellFormed, Faultless-lists-are-well-formed, Coupled-stations-are-named, well-formed, at-named, coupled-named, named-coupled}
+use Rattle.network.specs.ListLaws.{InList, WellFormed, Faultless-lists-are-well-formed, Coupled-stations-are-named, well-formed, at-named, coupled-named, named-coupled}
 use Rattle.network.proofs.ListFaults.{walk-all, lists-named}
 
 rows-all : (starts : List ℕ) (found : ℕ → ℕ → Option Fault) → ((s k : ℕ) → InList starts s k → found s k ≡ None) → rowsFault starts found ≡ None

@@ -1,10 +1,8 @@
 -- The lists lie within the names, and a search by halves in one of them finds what it names.
-use mathlib.Core.Path.{_≡_, refl, sym, ap, _∙_}
-use mathlib.Core.Bool.{Bool, true, false}
+use mathlib.Core.Path.{_≡_, sym, ap, _∙_}
 use mathlib.Core.List.{List}
 use mathlib.Core.Logic.{⊎-elim}
 use Prim.Native.Nat.{ℕ, zero, suc, _+_, _-_, _<_, _≤_}
-use native.Mathlib.Numerals.{add-one}
 use native.Mathlib.Omega.{arith}
 use lib.ListN.{length, getD, take, drop}
 use Rattle.std.specs.Places.{Located}
@@ -17,7 +15,7 @@ use Rattle.std.proofs.shelf.Lists.{getD-take, getD-drop, length-take-le, length
 use Rattle.std.proofs.shelf.Sorted.{searched}
 use Rattle.std.proofs.shelf.Tests.{cases-lt, cases-bool}
 use Rattle.network.specs.Refusals.{firstFault}
-use Rattle.network.specs.Lists.{listSize, amongNames, startFits, startFault, nameFault, rowsFault}
+use Rattle.network.specs.Lists.{listSize, amongNames, startFault, nameFault, rowsFault}
 use Rattle.network.specs.ListLaws.{start-none, starts-onward, starts-last, name-none, name-fits, rises-on, among-at, at-among}
 
 -- from each to the next not below is never below

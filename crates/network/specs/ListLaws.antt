@@ -5,16 +5,14 @@ use mathlib.Core.Bool.{Bool, true, false, cond, _&&_, _||_, not}
 use mathlib.Core.List.{List}
 use mathlib.Core.Logic.{⊎-elim}
 use Prim.Native.Nat.{ℕ, zero, suc, _+_, _-_, _<_, _≤_}
-use native.Mathlib.Numerals.{add-one}
 use native.Mathlib.Omega.{arith}
 use lib.Dec.{leb, ltb, eqb}
 use lib.ListN.{length, getD}
 use Rattle.std.specs.Options.{isSome}
 use Rattle.std.specs.declared.option.Option.{Option}
 use Rattle.std.specs.declared.option.Option.the-variants.{Some, None}
-use Rattle.std.proofs.shelf.Tests.{cases-lt, cases-eq, cases-bool, eq-eqb, ne-eqb, eqb-true, eqb-false, lt-ltb, ltb-true, leb-true, and-parts, and-from, or-cases, or-left, or-right, not-true, both-ways}
-use Rattle.std.proofs.shelf.Ways.{tells}
-use Rattle.network.specs.Net.{Net, Lawful}
+use Rattle.std.proofs.shelf.Tests.{cases-lt, cases-bool, eq-eqb, ne-eqb, eqb-true, eqb-false, lt-ltb, ltb-true, leb-true, and-parts, and-from, or-cases, or-left, or-right, not-true, both-ways}
+use Rattle.network.specs.Net.{Lawful}
 use Rattle.network.specs.Refusals.{Fault, refuse, orElse, firstFault}
 use Rattle.network.specs.Lists.{listSize, amongNames, namedIn, listNet, startsLengthFault, startFits, startFault, nameFits, nameFault, oneSidedFault, rowFault, rowsFault, listsFault}
 

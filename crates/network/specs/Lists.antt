@@ -1,6 +1,6 @@
 -- Neighbour lists: which names a station has, what is wrong with two lists, and the network that they give.
 -- Station s has the names from starts s up to, without, starts s + 1.
-use mathlib.Core.Bool.{Bool, true, false, cond, _&&_, _||_, not}
+use mathlib.Core.Bool.{Bool, false, cond, _&&_, _||_, not}
 use mathlib.Core.List.{List}
 use Prim.Native.Nat.{ℕ, zero, suc, _+_, _-_}
 use lib.Dec.{leb, ltb, eqb}

@@ -3,12 +3,11 @@
 ghost use mathlib.Core.Path.{_≡_};
 ghost use mathlib.Core.Bool.{false};
 ghost use mathlib.Core.List.{[], _∷_};
-ghost use Prim.Native.Nat.{ℕ, _+_, _<_};
+ghost use Prim.Native.Nat.{_+_, _<_};
 ghost use denote.Ref.{now};
 ghost use lib.ListN.{length};
 ghost use Rattle.std.specs.Options.{isSome};
 ghost use Rattle.std.specs.declared.option.Option.the-variants.{None};
-ghost use Rattle.network.specs.Net.{Net};
 ghost use Rattle.network.specs.Refusals.{firstFault};
 ghost use Rattle.network.specs.Lists.{listSize, namedIn, listNet, startFault, nameFault, rowsFault, listsFault};
 ghost use Rattle.network.specs.ListLaws.{list-lawful};

@@ -1,7 +1,7 @@
 //! Reading neighbour lists into a network place: the checks in their order, then the place.
 //! The names are walked twice: first each by itself, then each against the other station's list.
 ghost use mathlib.Core.Path.{_≡_};
-ghost use Prim.Native.Nat.{ℕ, _+_, _-_, _<_, _≤_};
+ghost use Prim.Native.Nat.{_+_, _-_, _<_, _≤_};
 ghost use lib.ListN.{length};
 ghost use Rattle.std.specs.Results.{Cases};
 ghost use Rattle.std.specs.declared.option.Option.the-variants.{None};
@@ -92,16 +92,16 @@ fn check_names(starts: &[u32], names: &[u16]) -> Result<(), Refusal>
 }
 
 // Looks up one station in the list of each station that it names: a search by halves for each name.
-fn check_both_sides_of(starts: &[u32], names: &[u16], station: u16) -> Result<(), Refusal>
-    requires station { ⌜ station < listSize (now starts) ⌝ }
+fn check_both_sides_of(starts: &[u32], names: &[u16], namer: u16) -> Result<(), Refusal>
+    requires station { ⌜ namer < listSize (now starts) ⌝ }
     requires starts { ⌜ firstFault (startFault (now starts) (length (now names))) (length (now starts)) ≡ None ⌝ }
     requires names { ⌜ rowsFault (now starts) (nameFault (now starts) (now names)) ≡ None ⌝ }
-    ensures { λ r. ⌜ outcome r ≡ unless (rowFault (now (starts .entry)) (oneSidedFault (now (starts .entry)) (now (names .entry))) station) tt ⌝ }
+    ensures { λ r. ⌜ outcome r ≡ unless (rowFault (now (starts .entry)) (oneSidedFault (now (starts .entry)) (now (names .entry))) namer) tt ⌝ }
 {
-    let low = starts[station as usize] as usize;
-    let high = starts[station as usize + 1] as usize;
+    let low = starts[namer as usize] as usize;
+    let high = starts[namer as usize + 1] as usize;
     for k in low..high {
-        if !is_named(starts, names, names[k], station) {
+        if !is_named(starts, names, names[k], namer) {
             return Err(Refusal::OneSided(k));
         }
     }
@@ -117,8 +117,8 @@ fn check_both_sides(starts: &[u32], names: &[u16]) -> Result<(), Refusal>
     ensures { λ r. ⌜ outcome r ≡ unless (rowsFault (now (starts .entry)) (oneSidedFault (now (starts .entry)) (now (names .entry)))) tt ⌝ }
 {
     let size = (starts.len() - 1) as u16;
-    for station in 0..size {
-        check_both_sides_of(starts, names, station)?;
+    for namer in 0..size {
+        check_both_sides_of(starts, names, namer)?;
     }
     Ok(())
 }

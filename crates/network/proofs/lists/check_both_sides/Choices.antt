@@ -5,5 +5,5 @@ use Rattle.network.specs.Lists.{oneSidedFault, rowFault}
 use Rattle.network.proofs.lists.check_both_sides.Given as given
 
 -- the lists of the earlier stations have no fault
-abbrev pub Inv-loop-station : given.InvT-loop-station
-Inv-loop-station l = firstFault (rowFault (l .starts) (oneSidedFault (l .starts) (l .names))) (l .station) ≡ None
+abbrev pub Inv-loop-namer : given.InvT-loop-namer
+Inv-loop-namer l = firstFault (rowFault (l .starts) (oneSidedFault (l .starts) (l .names))) (l .namer) ≡ None

@@ -1,7 +1,7 @@
-use mathlib.Core.Path.{_≡_, refl, sym, ap, _∙_}
-use Prim.Native.Nat.{ℕ, _+_, _-_, _≤_}
+use mathlib.Core.Path.{_≡_, sym, ap, _∙_}
+use Prim.Native.Nat.{ℕ, _+_, _-_}
 use native.Mathlib.Omega.{arith}
-use lib.ListN.{length, getD}
+use lib.ListN.{getD}
 use Rattle.std.proofs.shelf.Tests.{cond-true, cond-false}
 use Rattle.network.specs.Refusals.{at, firstFault}
 use Rattle.network.specs.Lists.{listSize, oneSidedFault, rowFault}
@@ -11,19 +11,19 @@ use Rattle.network.proofs.ListRows.{list-within}
 use Rattle.network.proofs.lists.check_both_sides_of.Needs as need
 
 pub loop-k-holds : need.loop-k-holds
-loop-k-holds c = part-none (oneSidedFault (c .args .starts .now) (c .args .names .now) (c .args .station)) (getD (c .args .starts .now) (c .args .station) 0)
+loop-k-holds c = part-none (oneSidedFault (c .args .starts .now) (c .args .names .now) (c .args .namer)) (getD (c .args .starts .now) (c .args .namer) 0)
 
 pub index-names-k : need.index-names-k
 index-names-k c =
-    omega (arith, list-within (c .args .starts .now) (c .args .names .now) (c .pre .starts) (c .args .station) (c .pre .station) .1)
+    omega (arith, list-within (c .args .starts .now) (c .args .names .now) (c .pre .starts) (c .args .namer) (c .pre .station) .1)
 
 pub is-named-requires : need.is-named-requires
 is-named-requires c κs =
     let starts = c .args .starts .now in
     let names = c .args .names .now in
-    let fits = name-none starts names (listSize starts) (c .pre .names) (c .args .station) (c .loop-k .k) (c .pre .station) (omega arith) (omega arith) in
+    let fits = name-none starts names (listSize starts) (c .pre .names) (c .args .namer) (c .loop-k .k) (c .pre .station) (omega arith) (omega arith) in
     record {
-      station = name-fits names (listSize starts) (getD starts (c .args .station) 0) (c .args .station) (c .loop-k .k) fits .0;
+      station = name-fits names (listSize starts) (getD starts (c .args .namer) 0) (c .args .namer) (c .loop-k .k) fits .0;
       starts = c .pre .starts;
       names = c .pre .names;
     }
@@ -32,20 +32,20 @@ pub returns-then-not-is-named : need.returns-then-not-is-named
 unfolding rowFault
 returns-then-not-is-named c =
     let k = c .loop-k .k in
-    let found = oneSidedFault (c .args .starts .now) (c .args .names .now) (c .args .station) in
+    let found = oneSidedFault (c .args .starts .now) (c .args .names .now) (c .args .namer) in
     answer-err _ _ (part-found found _ k _ (at 12 k) (omega arith) (omega arith) (c .loop-k .inv) (cond-false _ _ _ (sym (c .if-not-is-named .ensures tt))))
 
 pub loop-k-again : need.loop-k-again
 loop-k-again c =
     let k = c .loop-k .k in
-    let found = oneSidedFault (c .args .starts .now) (c .args .names .now) (c .args .station) in
+    let found = oneSidedFault (c .args .starts .now) (c .args .names .now) (c .args .namer) in
     part-more found _ k (omega arith) (c .loop-k .inv) (cond-true _ _ _ (sym (c .if-not-is-named .ensures tt)))
 
 pub returns : need.returns
 unfolding rowFault
 returns c =
     let starts = c .args .starts .now in
-    let s = c .args .station in
+    let s = c .args .namer in
     let order = list-within starts (c .args .names .now) (c .pre .starts) s (c .pre .station) .0 in
     let end : c .loop-k .k ≡ getD starts (s + 1) 0 = omega (arith, order) in
     let found = oneSidedFault starts (c .args .names .now) s in

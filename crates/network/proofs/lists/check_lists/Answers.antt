@@ -1,4 +1,4 @@
-use mathlib.Core.Path.{_≡_, sym, ap, _∙_}
+use mathlib.Core.Path.{sym, ap, _∙_}
 use Rattle.std.proofs.shelf.Results.{err-from-errBy}
 use Rattle.network.specs.Refusals.{unless}
 use Rattle.network.proofs.ListFaults.{answer-err, was-ok, was-err, lists-length, lists-start, lists-name, lists-named}

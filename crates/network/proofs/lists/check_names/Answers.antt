@@ -1,10 +1,9 @@
-use mathlib.Core.Path.{_≡_, refl, sym, ap, _∙_}
+use mathlib.Core.Path.{refl}
 use native.Mathlib.Numerals.{add-one}
 use native.Mathlib.Omega.{arith}
 use Rattle.std.proofs.shelf.Results.{err-from-errBy}
-use Rattle.network.specs.Refusals.{told}
 use Rattle.network.specs.Lists.{nameFault, rowFault}
-use Rattle.network.proofs.ListFaults.{walk-none, walk-more, walk-found, answer-ok, answer-err, was-ok, was-err}
+use Rattle.network.proofs.ListFaults.{walk-none, walk-more, walk-found, answer-err, was-ok, was-err}
 use Rattle.network.proofs.lists.check_names.Needs as need
 
 pub loop-station-holds : need.loop-station-holds
