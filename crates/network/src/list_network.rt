@@ -27,7 +27,7 @@ static NAMES: [u16; 0] = [];
 
 impl<'a> ListNetwork<'a> {
     /// A place that holds one lone station, until a reading into it is accepted.
-    pub fn lone() -> ListNetwork<'static>
+    pub fn lone() -> ListNetwork<'a>
         ensures starts { λ r. ⌜ now (r .starts) ≡ 0 ∷ 0 ∷ [] ⌝ }
         ensures names { λ r. ⌜ now (r .names) ≡ [] ⌝ }
     {

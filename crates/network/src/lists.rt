@@ -142,7 +142,7 @@ pub fn read_lists<'a>(
 ) -> Result<(), Refusal>
     ensures answer { λ r. ⌜ outcome r ≡ unless (listsFault (now (starts .entry)) (now (names .entry))) tt ⌝ }
     ensures place { λ r. ⌜ Cases r (λ _. (now (now (place .exit) .starts) ≡ now (starts .entry)) × (now (now (place .exit) .names) ≡ now (names .entry))) (λ _. now (place .exit) ≡ now (place .entry)) ⌝ }
-    ensures meaning { λ r. ⌜ Cases r (λ _. listNet (now (now (place .exit) .starts)) (now (now (place .exit) .names)) ≡ listNet (now (starts .entry)) (now (names .entry))) (λ _. listNet (now (now (place .exit) .starts)) (now (now (place .exit) .names)) ≡ listNet (now (now (place .entry) .starts)) (now (now (place .entry) .names))) ⌝ }
+    ensures meaning { λ r. ⌜ Cases r (λ _. listNet (now (now (place .exit) .starts)) (now (now (place .exit) .names)) ≡ listNet (now (starts .entry)) (now (names .entry))) (λ _. Unit {0}) ⌝ }
 {
     check_lists(starts, names)?;
     *place = ListNetwork { starts, names };
