@@ -2,10 +2,14 @@ pub mod Bits
 pub mod Faults
 pub mod Fields
 pub mod Found
+pub mod ListFaults
+pub mod ListForms
+pub mod ListRows
 pub mod Marks
 pub mod Nexts
 pub mod OrderChecks
 pub mod Places
+pub mod SameMeaning
 pub mod Searches
 pub mod SheetNets
 pub mod SheetPairs

@@ -11,3 +11,5 @@ pub mod SheetMeaning
 pub mod SheetView
 pub mod Laws
 pub mod SheetLaws
+pub mod Lists
+pub mod ListLaws

@@ -7,10 +7,11 @@ use Rattle.std.specs.declared.option.Option.the-variants.{None}
 use Rattle.std.specs.declared.result.Result.the-variants.{Ok}
 use Rattle.network.specs.Net.{Net, Lawful}
 use Rattle.network.specs.Orders.{orderFault}
-use Rattle.network.specs.Sheets.{Sheet, Well, width, sheetNet, sheetFrom}
+use Rattle.network.specs.Sheets.{Sheet, Well, width, hasPair, sheetNet, sheetFrom}
 use Rattle.network.specs.Decode.{decode}
 use Rattle.network.specs.Encode.{bytesOf}
 use Rattle.network.specs.Laws.{Bytes}
+use Rattle.network.specs.Lists.{listSize, namedIn, listNet, listsFault}
 
 -- ---- orders
 
@@ -72,3 +73,11 @@ Read-same-sheet = (bs : List ℕ) (s : Sheet) → decode bs ≡ Ok s → sheetFr
 -- a network and an order that were read are written as the bytes they were read from
 abbrev pub Read-same-bytes : Type 0
 Read-same-bytes = (bs : List ℕ) (s : Sheet) → Bytes bs → decode bs ≡ Ok s → bytesOf (sheetNet s) (s .order) ≡ bs
+
+-- ---- from a sheet and from neighbour lists
+
+-- a sheet and neighbour lists that were read and have the same couplings mean the same network
+abbrev pub Same-couplings-same-meaning : Type 0
+Same-couplings-same-meaning = (bs starts names : List ℕ) (s : Sheet) → decode bs ≡ Ok s → listsFault starts names ≡ None → s .size ≡ listSize starts
+    → ((larger smaller : ℕ) → larger < s .size → smaller < larger → hasPair (s .couplings) larger smaller ≡ namedIn starts names larger smaller)
+    → sheetNet s ≡ listNet starts names

@@ -1,6 +1,8 @@
 //! Networks of gauge stations: refusals, the questions that a network answers,
 //! and the packed sheets and neighbour lists that networks are read from.
 mod bit_fields;
+mod list_network;
+mod lists;
 mod net;
 mod orders;
 mod refusal;
@@ -8,6 +10,11 @@ mod sheet_laws;
 mod sheets;
 
 ghost use Rattle.network.specs.Laws.{Next-is-smallest, Written-reads, Read-writes, Read-well};
+pub use list_network::ListNetwork;
+pub use list_network::ListNetworkNetwork;
+pub use lists::coupled_stations_are_named;
+pub use lists::faultless_lists_are_well_formed;
+pub use lists::read_lists;
 pub use net::Network;
 pub use orders::check_order;
 pub use refusal::Refusal;
@@ -15,6 +22,7 @@ pub use refusal::refusals_are_told_apart;
 pub use sheet_laws::accepted_list_is_order;
 pub use sheet_laws::bytes_tell_networks_apart;
 pub use sheet_laws::read_network_is_written_the_same;
+pub use sheet_laws::same_couplings_same_meaning;
 pub use sheet_laws::width_is_smallest;
 pub use sheet_laws::written_network_returns;
 pub use sheets::SheetNetwork;

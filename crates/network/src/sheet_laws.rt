@@ -2,6 +2,7 @@
 //! They compute nothing; a caller cites them for their facts.
 ghost use Rattle.network.specs.SheetLaws.{Order-is, Order-names-all, Width-is-smallest};
 ghost use Rattle.network.specs.SheetLaws.{Network-sheet-well, Network-returns, Bytes-tell-apart};
+ghost use Rattle.network.specs.SheetLaws.{Same-couplings-same-meaning};
 ghost use Rattle.network.specs.SheetLaws.{Read-lawful, Read-ordered, Read-same-sheet, Read-same-bytes};
 
 /// A list is accepted as an order of a network's stations exactly if it is one, and then it names every station.
@@ -40,6 +41,13 @@ pub fn read_network_is_written_the_same() -> u8
     ensures ordered { λ _. ⌜ Read-ordered ⌝ }
     ensures sheet { λ _. ⌜ Read-same-sheet ⌝ }
     ensures bytes { λ _. ⌜ Read-same-bytes ⌝ }
+{
+    0
+}
+
+/// A sheet network and a list network that were read from the same couplings have equal meanings.
+pub fn same_couplings_same_meaning() -> u8
+    ensures { λ _. ⌜ Same-couplings-same-meaning ⌝ }
 {
     0
 }
