@@ -16,3 +16,4 @@ pub mod Trips
 pub mod Wells
 pub mod Widths
 pub mod Windows
+pub mod Writes

@@ -8,5 +8,6 @@ pub mod Decode
 pub mod Encode
 pub mod Parts
 pub mod SheetView
+pub mod Writing
 pub mod Laws
 pub mod SheetLaws

@@ -6,6 +6,7 @@ ghost use Rattle.network.specs.Decode.{Stands};
 
 mod checks;
 mod reading;
+mod writing;
 
 pub use reading::read_sheet;
 
