@@ -1,4 +1,5 @@
 pub mod Bits
+pub mod Counts
 pub mod Faults
 pub mod Fields
 pub mod Found
@@ -17,3 +18,4 @@ pub mod Wells
 pub mod Widths
 pub mod Windows
 pub mod Writes
+pub mod Written

@@ -7,8 +7,8 @@ use Prim.Native.Nat.{ℕ, zero, suc, _+_, _-_, _*_, _/_, _%_, _≤_, _<_}
 use native.Mathlib.Numerals.{add-one}
 use native.Mathlib.Omega.{arith}
 use denote.Ref.{name}
-use lib.ListN.{length, getD}
-use Rattle.std.proofs.shelf.Lists.{getD-append-left, getD-append-right, length-append, append-nil}
+use lib.ListN.{length, getD, replicate}
+use Rattle.std.proofs.shelf.Lists.{getD-append-left, getD-append-right, getD-past, getD-replicate, length-append, length-replicate, append-nil}
 use Rattle.std.proofs.shelf.Tests.{cases-lt}
 use Rattle.network.proofs.Bits.{bitAt-none}
 use Rattle.network.proofs.Standing.{length-bitsOf, getD-bitsOf, length-spread, holds-pack, Holds}
@@ -76,6 +76,10 @@ pub spread-append : (w : ℕ) (us vs : List ℕ) → spread w (us ++ vs) ≡ spr
 unfolding spread
 spread-append w [] vs = refl
 spread-append w (u ∷ us) vs = ap (λ l. bitsOf w u ++ l) (spread-append w us vs) ∙ sym (append-assoc (bitsOf w u) (spread w us) (spread w vs))
+
+pub spread-none : (w : ℕ) → spread w [] ≡ []
+unfolding spread
+spread-none w = refl
 
 spread-one : (w v : ℕ) → spread w (v ∷ []) ≡ bitsOf w v
 unfolding spread
@@ -160,13 +164,17 @@ pairs-room w C a n lt =
 
 -- ---- all bits
 
+zero-at : (n k : ℕ) → getD {A = ℕ} (replicate n 0) k 0 ≡ 0
+zero-at n k =
+    ⊎-elim (λ lt. getD-replicate n k 0 0 lt) (λ ge. getD-past (replicate n 0) k 0 (omega (arith, length-replicate {A = ℕ} n 0))) (cases-lt k n)
+
 -- bits that are written into zero bytes, just as many as they need
-pub wrote-pack : (bs cs : List ℕ) (bits : List Bool) → ((k : ℕ) → getD bs k 0 ≡ 0) → Bytes cs → length cs ≡ (length bits + 7) / 8 → WrittenBits bs cs 0 bits → cs ≡ pack bits
+pub wrote-pack : (n p : ℕ) (bs cs : List ℕ) (bits : List Bool) → bs ≡ replicate n 0 → p ≡ 0 → Bytes cs → length cs ≡ (length bits + 7) / 8 → WrittenBits bs cs p bits → cs ≡ pack bits
 unfolding bitOf
-wrote-pack bs cs bits zero-bytes bytes long so =
+wrote-pack n p bs cs bits zeros start bytes long so =
     let it : Holds cs bits = record {
-      reads = λ i h. sym (so .inside i h);
+      reads = λ i h. sym (so .inside i h) ∙ ap (λ (x : ℕ). bitOf cs (x + i)) start;
       long = long;
-      fill = λ i h. so .after i (omega arith) ∙ ap (λ (x : ℕ). bitAt x (7 - i % 8)) (zero-bytes (i / 8)) ∙ bitAt-none _;
+      fill = λ i h. so .after i (omega arith) ∙ ap (λ (l : List ℕ). bitAt (getD l (i / 8) 0) (7 - i % 8)) zeros ∙ ap (λ (x : ℕ). bitAt x (7 - i % 8)) (zero-at n (i / 8)) ∙ bitAt-none _;
     } in
     sym (holds-pack cs bits bytes it)
