@@ -13,6 +13,7 @@ use Rattle.std.proofs.shelf.Tests.{lt-ltb, le-ltb, cond-true, cond-false}
 use Rattle.network.proofs.Counts.{pairs-few}
 use Rattle.network.proofs.Faults.{orElse-some, orElse-past}
 use Rattle.network.proofs.Found.{length-bitsIn}
+use Rattle.network.proofs.OrderChecks.{faultless-order}
 use Rattle.network.proofs.Places.{width-few}
 use Rattle.network.proofs.Standing.{length-pack}
 use Rattle.network.proofs.Trips.{length-named}
@@ -22,7 +23,7 @@ use Rattle.network.specs.Encode.{bytesOf, writeFault}
 use Rattle.network.specs.Net.{Net, Lawful}
 use Rattle.network.specs.Orders.{orderFault}
 use Rattle.network.specs.Refusals.{Fault, refuse}
-use Rattle.network.specs.Sheets.{bitsOf, spread, flat, pack, bitsIn, encode, width, pairsTo, sheetFrom}
+use Rattle.network.specs.Sheets.{bitsOf, spread, flat, named, pack, bitsIn, encode, width, pairsTo, sheetFrom}
 use Rattle.network.specs.Writing.{headBits, pairBits}
 
 -- ---- its bits
@@ -64,26 +65,27 @@ bits-length net order n m w en em ew =
     let pairs = pairBits w (pairsTo (net .coupled) (net .size)) in
     omega (arith, ap length (sheet-bits net order n m w en em ew), length-append (headBits n m) (pairs ++ spread w order), length-append pairs (spread w order), length-headBits n m)
 
--- the length by the place behind the last station
-pub need-is : (net : Net) (order : List ℕ) (n m w : ℕ) → n ≡ net .size → m ≡ countOf net → w ≡ width n → length order ≡ n → (placeOf w (2 * m + n) + 7) / 8 ≡ length (bytesOf net order)
-need-is net order n m w en em ew lo =
+-- the length by the place p behind the last station, of a list that is an order
+pub need-is : (net : Net) (order : List ℕ) (n m w p : ℕ) → n ≡ net .size → orderFault order n ≡ None → m ≡ countOf net → w ≡ width n → p ≡ placeOf w (2 * m + n)
+    → (p + 7) / 8 ≡ length (bytesOf net order)
+need-is net order n m w p en ordered em ew ep =
     let s = sheetFrom net order in
-    let e : 2 * m + n ≡ length (flat (s .couplings) ++ order) = omega (arith, length-named s) in
-    ap (λ (x : ℕ). (x + 7) / 8) (ap₂ placeOf (ew ∙ ap width en) e ∙ sym (length-bitsIn s)) ∙ sym (sheet-length net order)
+    let e : 2 * m + n ≡ length (named s) = omega (arith, length-named s, faultless-order order n ordered .whole) in
+    ap (λ (x : ℕ). (x + 7) / 8) (ep ∙ ap₂ placeOf (ew ∙ ap width en) e ∙ sym (length-bitsIn s)) ∙ sym (sheet-length net order)
 
 pub sheet-short : (net : Net) (order : List ℕ) → Lawful net → length order ≡ net .size → length (bytesOf net order) < 2 ^ 32
 unfolding placeOf
 sheet-short net order law lo =
     let s = sheetFrom net order in
-    let k = length (flat (s .couplings) ++ order) in
+    let k = length (named s) in
     let b : width (net .size) * k ≤ 9 * k = mul-le-mul-right k (width-few (net .size) .1) in
     omega (arith, sheet-length net order, length-bitsIn s, length-named s, pairs-few (net .coupled) (net .size) (law .few), law .few)
 
 -- ---- what a writing finds
 
-pub write-list : (net : Net) (order : List ℕ) (l n : ℕ) (e : Fault) → n ≡ net .size → orderFault order n ≡ Some e → writeFault net order l ≡ Some e
+pub write-unordered : (net : Net) (order : List ℕ) (l n : ℕ) (e : Fault) → n ≡ net .size → orderFault order n ≡ Some e → writeFault net order l ≡ Some e
 unfolding writeFault
-write-list net order l n e en h = orElse-some _ _ e (ap (orderFault order) (sym en) ∙ h)
+write-unordered net order l n e en h = orElse-some _ _ e (ap (orderFault order) (sym en) ∙ h)
 
 pub write-short : (net : Net) (order : List ℕ) (l n need : ℕ) → n ≡ net .size → orderFault order n ≡ None → need ≡ length (bytesOf net order) → l < need
     → writeFault net order l ≡ refuse 16 need

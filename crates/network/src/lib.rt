@@ -18,6 +18,7 @@ pub use sheet_laws::width_is_smallest;
 pub use sheet_laws::written_network_returns;
 pub use sheets::SheetNetwork;
 pub use sheets::read_sheet;
+pub use sheets::write_sheet;
 
 /// The next coupled station is the smallest one not below the given number.
 pub fn next_is_smallest() -> u8

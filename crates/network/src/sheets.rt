@@ -9,6 +9,7 @@ mod reading;
 mod writing;
 
 pub use reading::read_sheet;
+pub use writing::write_sheet;
 
 /// A network that stands on a packed sheet: nothing of it is unpacked.
 #[derive(Drop)]

@@ -136,3 +136,21 @@ fn put_sheet<N: Network>(network: &N, order: &[u16], couplings: u32, out: &mut [
     put_pairs(&mut writer, network, w);
     put_list(&mut writer, order, w);
 }
+
+/// Writes the sheet of a network and one of its orders to the front of the bytes, and answers its length.
+/// It asks twice for each two stations, to count the couplings and to write them.
+pub fn write_sheet<N: Network>(network: &N, order: &[u16], out: &mut [u8]) -> Result<usize, Refusal>
+    ensures answer { λ r. ⌜ outcome r ≡ unless (writeFault (N·Network .meaning (now (network .entry))) (now (order .entry)) (length (now (out .entry)))) (length (bytesOf (N·Network .meaning (now (network .entry))) (now (order .entry)))) ⌝ }
+    ensures out { λ _. ⌜ now (out .exit) ≡ bufferAfter (writeFault (N·Network .meaning (now (network .entry))) (now (order .entry)) (length (now (out .entry)))) (bytesOf (N·Network .meaning (now (network .entry))) (now (order .entry))) (now (out .entry)) ⌝ }
+{
+    let n = network.size();
+    check_order(n, order)?;
+    let couplings = count_pairs(network);
+    let w = width_of(n as u32);
+    let need = (place_of(w, 2 * couplings + n as u32) + 7) / 8;
+    if out.len() < need {
+        return Err(Refusal::TooShort(need));
+    }
+    put_sheet(network, order, couplings, &mut out[..need]);
+    Ok(need)
+}
