@@ -58,22 +58,15 @@ pub sheet-length : (net : Net) (order : List ℕ) → length (bytesOf net order)
 unfolding encode
 sheet-length net order = length-pack (bitsIn (sheetFrom net order))
 
--- the length of the parts
-pub bits-length : (net : Net) (order : List ℕ) (n m w : ℕ) → n ≡ net .size → m ≡ countOf net → w ≡ width n
-    → length (bitsIn (sheetFrom net order)) ≡ 32 + length (pairBits w (pairsTo (net .coupled) (net .size))) + length (spread w order)
-bits-length net order n m w en em ew =
-    let pairs = pairBits w (pairsTo (net .coupled) (net .size)) in
-    omega (arith, ap length (sheet-bits net order n m w en em ew), length-append (headBits n m) (pairs ++ spread w order), length-append pairs (spread w order), length-headBits n m)
-
 -- the length by the place p behind the last station, of a list that is an order
-pub need-is : (net : Net) (order : List ℕ) (n m w p : ℕ) → n ≡ net .size → orderFault order n ≡ None → m ≡ countOf net → w ≡ width n → p ≡ placeOf w (2 * m + n)
+pub need-is : (net : Net) (order : List ℕ) (n m w p : ℕ) → n ≡ net .size → orderFault order (net .size) ≡ None → m ≡ countOf net → w ≡ width n → p ≡ placeOf w (2 * m + n)
     → (p + 7) / 8 ≡ length (bytesOf net order)
 need-is net order n m w p en ordered em ew ep =
     let s = sheetFrom net order in
-    let e : 2 * m + n ≡ length (named s) = omega (arith, length-named s, faultless-order order n ordered .whole) in
+    let e : 2 * m + n ≡ length (named s) = omega (arith, length-named s, faultless-order order (net .size) ordered .whole) in
     ap (λ (x : ℕ). (x + 7) / 8) (ep ∙ ap₂ placeOf (ew ∙ ap width en) e ∙ sym (length-bitsIn s)) ∙ sym (sheet-length net order)
 
-pub sheet-short : (net : Net) (order : List ℕ) → Lawful net → length order ≡ net .size → length (bytesOf net order) < 2 ^ 32
+sheet-short : (net : Net) (order : List ℕ) → Lawful net → length order ≡ net .size → length (bytesOf net order) < 2 ^ 32
 unfolding placeOf
 sheet-short net order law lo =
     let s = sheetFrom net order in
@@ -81,22 +74,27 @@ sheet-short net order law lo =
     let b : width (net .size) * k ≤ 9 * k = mul-le-mul-right k (width-few (net .size) .1) in
     omega (arith, sheet-length net order, length-bitsIn s, length-named s, pairs-few (net .coupled) (net .size) (law .few), law .few)
 
+-- bytes of the sheet's length have room for all its parts
+pub sheet-room : (net : Net) (order : List ℕ) (n m w l : ℕ) → Lawful net → orderFault order (net .size) ≡ None → n ≡ net .size → m ≡ countOf net → w ≡ width n → l ≡ length (bytesOf net order)
+    → (32 + length (pairBits w (pairsTo (net .coupled) (net .size))) + length (spread w order) ≤ 8 * l) × (l < 2 ^ 32)
+sheet-room net order n m w l law ordered en em ew el =
+    let pairs = pairBits w (pairsTo (net .coupled) (net .size)) in (
+      omega (arith, sheet-length net order, ap length (sheet-bits net order n m w en em ew), length-append (headBits n m) (pairs ++ spread w order), length-append pairs (spread w order), length-headBits n m),
+      omega (arith, sheet-short net order law (faultless-order order (net .size) ordered .whole)),
+    )
+
 -- ---- what a writing finds
 
 pub write-unordered : (net : Net) (order : List ℕ) (l n : ℕ) (e : Fault) → n ≡ net .size → orderFault order n ≡ Some e → writeFault net order l ≡ Some e
 unfolding writeFault
 write-unordered net order l n e en h = orElse-some _ _ e (ap (orderFault order) (sym en) ∙ h)
 
-pub write-short : (net : Net) (order : List ℕ) (l n need : ℕ) → n ≡ net .size → orderFault order n ≡ None → need ≡ length (bytesOf net order) → l < need
-    → writeFault net order l ≡ refuse 16 need
+pub write-short : (net : Net) (order : List ℕ) (l need : ℕ) → orderFault order (net .size) ≡ None → need ≡ length (bytesOf net order) → l < need → writeFault net order l ≡ refuse 16 need
 unfolding writeFault
-write-short net order l n need en h e lt =
-    orElse-past (orderFault order (net .size)) _ (ap (orderFault order) (sym en) ∙ h)
-    ∙ ap (λ (x : ℕ). cond (ltb l x) (refuse 16 x) None) (sym e) ∙ cond-true _ _ _ (lt-ltb l need lt)
+write-short net order l need h e lt =
+    orElse-past (orderFault order (net .size)) _ h ∙ ap (λ (x : ℕ). cond (ltb l x) (refuse 16 x) None) (sym e) ∙ cond-true _ _ _ (lt-ltb l need lt)
 
-pub write-fine : (net : Net) (order : List ℕ) (l n need : ℕ) → n ≡ net .size → orderFault order n ≡ None → need ≡ length (bytesOf net order) → need ≤ l
-    → writeFault net order l ≡ None
+pub write-fine : (net : Net) (order : List ℕ) (l need : ℕ) → orderFault order (net .size) ≡ None → need ≡ length (bytesOf net order) → need ≤ l → writeFault net order l ≡ None
 unfolding writeFault
-write-fine net order l n need en h e le =
-    orElse-past (orderFault order (net .size)) _ (ap (orderFault order) (sym en) ∙ h)
-    ∙ ap (λ (x : ℕ). cond (ltb l x) (refuse 16 x) None) (sym e) ∙ cond-false _ _ _ (le-ltb l need le)
+write-fine net order l need h e le =
+    orElse-past (orderFault order (net .size)) _ h ∙ ap (λ (x : ℕ). cond (ltb l x) (refuse 16 x) None) (sym e) ∙ cond-false _ _ _ (le-ltb l need le)
