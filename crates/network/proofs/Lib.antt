@@ -1,4 +1,5 @@
 pub mod Bits
+pub mod Counts
 pub mod Faults
 pub mod Fields
 pub mod Found
@@ -21,3 +22,5 @@ pub mod Trips
 pub mod Wells
 pub mod Widths
 pub mod Windows
+pub mod Writes
+pub mod Written

@@ -162,12 +162,12 @@ one-short : (c : Bool) (p : ℕ × ℕ) → length (cond c (p ∷ []) []) ≤ 1
 one-short true p = omega arith
 one-short false p = omega arith
 
-row-short : (C : ℕ → ℕ → Bool) (x y : ℕ) → length (rowTo C x y) ≤ y
+pub row-short : (C : ℕ → ℕ → Bool) (x y : ℕ) → length (rowTo C x y) ≤ y
 unfolding rowTo
 row-short C x zero = omega arith
 row-short C x (suc y) = omega (arith, length-append (rowTo C x y) (cond (C x y) ((x, y) ∷ []) []), one-short (C x y) (x, y), row-short C x y)
 
-pairs-square : (C : ℕ → ℕ → Bool) (n : ℕ) → 2 * length (pairsTo C n) + n ≤ n * n
+pub pairs-square : (C : ℕ → ℕ → Bool) (n : ℕ) → 2 * length (pairsTo C n) + n ≤ n * n
 unfolding pairsTo
 pairs-square C zero = omega arith
 pairs-square C (suc n) =

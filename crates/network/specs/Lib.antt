@@ -9,6 +9,7 @@ pub mod Encode
 pub mod Parts
 pub mod SheetMeaning
 pub mod SheetView
+pub mod Writing
 pub mod Laws
 pub mod SheetLaws
 pub mod Lists

@@ -21,8 +21,8 @@ pub(crate) struct BitReader<'a> {
 /// Writes fields from a bit place on.
 #[derive(Drop)]
 pub(crate) struct BitWriter<'a> {
-    bytes: &'a mut [u8],
-    at: usize,
+    pub(crate) bytes: &'a mut [u8],
+    pub(crate) at: usize,
 }
 
 // The byte at `j`, or 0 past the end.

@@ -28,6 +28,7 @@ pub use sheet_laws::written_network_returns;
 pub use sheets::SheetNetwork;
 pub use sheets::SheetNetworkNetwork;
 pub use sheets::read_sheet;
+pub use sheets::write_sheet;
 
 /// The next coupled station is the smallest one not below the given number.
 pub fn next_is_smallest() -> u8

@@ -7,9 +7,11 @@ ghost use Rattle.network.specs.Decode.{Stands};
 mod checks;
 mod questions;
 mod reading;
+mod writing;
 
 pub use questions::SheetNetworkNetwork;
 pub use reading::read_sheet;
+pub use writing::write_sheet;
 
 /// A network that stands on a packed sheet: nothing of it is unpacked.
 #[derive(Drop)]
