@@ -27,6 +27,7 @@ pub use sheet_laws::width_is_smallest;
 pub use sheet_laws::written_network_returns;
 pub use sheets::SheetNetwork;
 pub use sheets::SheetNetworkNetwork;
+pub use sheets::count_couplings;
 pub use sheets::read_sheet;
 pub use sheets::write_sheet;
 

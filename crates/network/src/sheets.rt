@@ -11,6 +11,7 @@ mod writing;
 
 pub use questions::SheetNetworkNetwork;
 pub use reading::read_sheet;
+pub use writing::count_couplings;
 pub use writing::write_sheet;
 
 /// A network that stands on a packed sheet: nothing of it is unpacked.

@@ -102,8 +102,8 @@ fn count_row<N: Network>(network: &N, a: u16) -> u32
     couplings
 }
 
-// How many couplings the network has. It asks once for each two stations.
-fn count_pairs<N: Network>(network: &N) -> u32
+/// How many couplings the network has. It asks once for each two stations.
+pub fn count_couplings<N: Network>(network: &N) -> u32
     ensures value { λ r. ⌜ r ≡ length (pairsTo (N·Network .meaning (now (network .entry)) .coupled) (N·Network .meaning (now (network .entry)) .size)) ⌝ }
     ensures small { λ r. ⌜ r < 2 ^ 17 ⌝ }
 {
@@ -145,7 +145,7 @@ pub fn write_sheet<N: Network>(network: &N, order: &[u16], out: &mut [u8]) -> Re
 {
     let n = network.size();
     check_order(n, order)?;
-    let couplings = count_pairs(network);
+    let couplings = count_couplings(network);
     let w = width_of(n as u32);
     let need = (place_of(w, 2 * couplings + n as u32) + 7) / 8;
     if out.len() < need {

@@ -24,7 +24,7 @@ ordered g c =
 long : (g : given.Over) (c : After-place-of g) → (c .place-of .result + 7) / 8 ≡ length (bytesOf (g .N·Network .meaning (c .args .network .now)) (c .args .order .now))
 long g c =
     need-is (g .N·Network .meaning (c .args .network .now)) (c .args .order .now) (c .size-n .result) _ _ _
-    (c .size-n .ensures) (ordered g c) (c .count-pairs-couplings .ensures .value) (c .width-of-w .ensures .value) (c .place-of .ensures .value)
+    (c .size-n .ensures) (ordered g c) (c .count-couplings-couplings .ensures .value) (c .width-of-w .ensures .value) (c .place-of .ensures .value)
 
 pub returns-in-Break-check-order : need.returns-in-Break-check-order
 returns-in-Break-check-order g c =
@@ -55,7 +55,7 @@ put-sheet-requires g c κs =
     let here = need.at·put-sheet-requires g c .After-place-of in
     record {
       order = ordered g here;
-      count = c .count-pairs-couplings .ensures .value;
+      count = c .count-couplings-couplings .ensures .value;
       long = length-take-le _ (c .args .out .now) (c .if-out-need .left) ∙ long g here;
     }
 

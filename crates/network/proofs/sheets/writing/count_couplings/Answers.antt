@@ -4,7 +4,7 @@ use native.Mathlib.Omega.{arith}
 use lib.ListN.{length}
 use Rattle.network.proofs.Counts.{pairs-none, pairs-more, pairs-few}
 use Rattle.network.specs.Sheets.{pairsTo}
-use Rattle.network.proofs.sheets.writing.count_pairs.Needs as need
+use Rattle.network.proofs.sheets.writing.count_couplings.Needs as need
 
 pub loop-a-holds : need.loop-a-holds
 loop-a-holds g c = sym (pairs-none (g .N·Network .meaning (c .args .network .now) .coupled))

@@ -1,7 +1,7 @@
 use mathlib.Core.Path.{_≡_}
 use lib.ListN.{length}
 use Rattle.network.specs.Sheets.{pairsTo}
-use Rattle.network.proofs.sheets.writing.count_pairs.Given as given
+use Rattle.network.proofs.sheets.writing.count_couplings.Given as given
 
 abbrev pub Inv-loop-a : given.InvT-loop-a
 Inv-loop-a g l = l .couplings ≡ length (pairsTo (g .N·Network .meaning (l .network) .coupled) (l .a))
