@@ -24,7 +24,6 @@ station-says xs n k h =
     (ltb-true _ _ (both .0), not-true _ (both .1))
 
 pub faultless-order : (xs : List ℕ) (n : ℕ) → orderFault xs n ≡ None → OrderOf xs n
-unfolding orderFault
 faultless-order xs n h =
     let fine = cond-none (eqb (length xs) n && leb n 512) (firstFault (stationFault xs n) n) 13 (length xs) h in
     let both = and-parts (eqb (length xs) n) (leb n 512) (fine .0) in
@@ -45,7 +44,6 @@ station-fine xs n order k lt =
     (not-from-false _ (unnamed (λ i. getD xs i 0) k (getD xs k 0) (λ j less e. order .once j k less lt e))))
 
 pub order-faultless : (xs : List ℕ) (n : ℕ) → OrderOf xs n → orderFault xs n ≡ None
-unfolding orderFault
 order-faultless xs n order =
     cond-true _ _ _ (and-from _ _ (eq-eqb _ _ (order .whole)) (le-leb _ _ (order .few)))
     ∙ no-fault (stationFault xs n) n (station-fine xs n order)

@@ -17,7 +17,7 @@ use Rattle.std.proofs.shelf.Ways.{tells}
 use Rattle.network.proofs.Faults.{cond-none, cond-none-else, orElse-none, each-none}
 use Rattle.network.proofs.Fields.{field-lt}
 use Rattle.network.proofs.Places.{width-few}
-use Rattle.network.specs.Decode.{placeOf, valueAt, headerFault, pairFault, placedFault, endFault, bodyFault, fault, sheetOf, faultless, Stands}
+use Rattle.network.specs.Decode.{placeOf, valueAt, headerFault, pairFault, placedFault, endFault, bodyFault, fault, sheetOf, couplingsOf, orderOf, faultless, Stands}
 use Rattle.network.specs.Parts.{keyAt}
 use Rattle.network.specs.Fields.{field, isIn}
 use Rattle.network.specs.Refusals.{Fault, orElse, firstFault}
@@ -100,11 +100,11 @@ has-none (x ∷ ps) a b f =
     (has-none ps a b (λ k h. f (suc k) (omega arith)))
 
 pub pair-is : (bs : List ℕ) (n m k : ℕ) → k < m → getD (sheetOf bs n m .couplings) k (0, 0) ≡ (valueAt bs (width n) (2 * k), valueAt bs (width n) (2 * k + 1))
-unfolding sheetOf
+unfolding couplingsOf orderOf
 pair-is bs n m k h = getD-map-counting (λ i. (valueAt bs (width n) (2 * i), valueAt bs (width n) (2 * i + 1))) 0 m k k (0, 0) h (omega arith)
 
 pub count-is : (bs : List ℕ) (n m : ℕ) → length (sheetOf bs n m .couplings) ≡ m
-unfolding sheetOf
+unfolding couplingsOf orderOf
 count-is bs n m = length-map-counting _ 0 m
 
 pub has-key : (bs : List ℕ) (n m k a b : ℕ) → k < m → b < 512 → keyAt bs (width n) k ≡ a * 512 + b → hasPair (sheetOf bs n m .couplings) a b ≡ true

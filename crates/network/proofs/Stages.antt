@@ -12,7 +12,7 @@ use Rattle.std.specs.declared.result.Result.{Result}
 use Rattle.std.specs.declared.result.Result.the-variants.{Ok, Err}
 use Rattle.std.proofs.shelf.Tests.{cond-true, cond-false, lt-ltb, le-ltb}
 use Rattle.network.proofs.Faults.{orElse-some, orElse-past, unless-err, unless-ok}
-use Rattle.network.specs.Decode.{placeOf, headerFault, pairFault, placedFault, endFault, bodyFault, fault, sheetOf, decode, faultless, Stands, fitting}
+use Rattle.network.specs.Decode.{placeOf, headerFault, pairFault, placedFault, endFault, bodyFault, fault, sheetOf, couplingsOf, orderOf, decode, faultless, Stands, fitting}
 use Rattle.network.specs.declared.sheets.Header.{Header}
 use Rattle.network.specs.Parts.{headerIn, headOf, sizesOf}
 use Rattle.network.specs.Fields.{field}
@@ -84,9 +84,9 @@ pub fit-err : (bs : List ℕ) (l : ℕ) (e : Fault) → Err e ≡ sizesOf bs →
 fit-err bs l e h = ap (λ x. fitting x l) (decode-err bs e h)
 
 pub fit-short : (bs : List ℕ) (l : ℕ) (p : Header) → Ok p ≡ sizesOf bs → l < p .stations → fitting (decode bs) l ≡ Err (at 16 (p .stations))
-unfolding sheetOf
+unfolding couplingsOf orderOf
 fit-short bs l p h lt = ap (λ x. fitting x l) (decode-ok bs p h) ∙ cond-true _ _ _ (lt-ltb l (p .stations) lt)
 
 pub fit-ok : (bs : List ℕ) (l : ℕ) (p : Header) → Ok p ≡ sizesOf bs → p .stations ≤ l → fitting (decode bs) l ≡ Ok (sheetOf bs (p .stations) (p .couplings))
-unfolding sheetOf
+unfolding couplingsOf orderOf
 fit-ok bs l p h le = ap (λ x. fitting x l) (decode-ok bs p h) ∙ cond-false _ _ _ (le-ltb l (p .stations) le)

@@ -21,7 +21,7 @@ use Rattle.network.proofs.Found.{Found, Small, found, holds}
 use Rattle.network.proofs.Marks.{unnamed}
 use Rattle.network.proofs.Places.{place-within, width-holds}
 use Rattle.network.proofs.Standing.{pack-holds, holds-pack}
-use Rattle.network.specs.Decode.{placeOf, valueAt, headerFault, pairFault, placedFault, endFault, bodyFault, fault, sheetOf, decode}
+use Rattle.network.specs.Decode.{placeOf, valueAt, headerFault, pairFault, placedFault, endFault, bodyFault, fault, sheetOf, couplingsOf, orderOf, decode}
 use Rattle.network.specs.Fields.{field, isIn}
 use Rattle.network.specs.Laws.{Bytes, Written-reads, Read-writes}
 use Rattle.network.specs.Refusals.{Fault, refuse, orElse, firstFault, unless}
@@ -167,7 +167,7 @@ end-fine bs s f well =
     ∙ none-cond _ _ 8 _ (and-from _ _ (eq-eqb _ _ (f .long)) (eq-eqb _ _ (f .fill))) refl
 
 same-sheet : (bs : List ℕ) (s : Sheet) → Found bs s → Well s → sheetOf bs (s .size) (length (s .couplings)) ≡ s
-unfolding sheetOf
+unfolding couplingsOf orderOf
 same-sheet bs s f well =
     let w = width (s .size) in
     let m = length (s .couplings) in
@@ -205,7 +205,7 @@ written-reads s well = read-back (encode s) s (found (encode s) s (small s well)
 -- ---- what is read is written
 
 pub found-in : (bs : List ℕ) → fault bs ≡ None → Found bs (sheetOf bs (field bs 5 10) (field bs 15 17))
-unfolding fault bodyFault headerFault endFault sheetOf
+unfolding fault bodyFault headerFault endFault couplingsOf orderOf
 found-in bs h =
     let n = field bs 5 10 in
     let m = field bs 15 17 in

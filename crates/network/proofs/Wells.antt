@@ -17,7 +17,7 @@ use Rattle.std.proofs.shelf.Ways.{tells}
 use Rattle.network.proofs.Faults.{cond-none, orElse-none, each-none, unless-ok}
 use Rattle.network.proofs.Marks.{named-nowhere}
 use Rattle.network.proofs.Searches.{pair-says, pair-is, count-is, header-says}
-use Rattle.network.specs.Decode.{placeOf, valueAt, headerFault, pairFault, placedFault, endFault, bodyFault, fault, sheetOf, decode}
+use Rattle.network.specs.Decode.{placeOf, valueAt, headerFault, pairFault, placedFault, endFault, bodyFault, fault, sheetOf, couplingsOf, orderOf, decode}
 use Rattle.network.specs.Fields.{field, isIn}
 use Rattle.network.specs.Laws.{Read-well}
 use Rattle.network.specs.Orders.{namedBefore}
@@ -37,15 +37,15 @@ order-says bs n w s k h =
     (ltb-true _ _ (both .0), not-true _ (both .1))
 
 station-is : (bs : List ℕ) (n m k : ℕ) → k < n → getD (sheetOf bs n m .order) k 0 ≡ valueAt bs (width n) (2 * m + k)
-unfolding sheetOf
+unfolding couplingsOf orderOf
 station-is bs n m k h = getD-map-counting (λ i. valueAt bs (width n) (2 * m + i)) 0 n k k 0 h (omega arith)
 
 order-length : (bs : List ℕ) (n m : ℕ) → length (sheetOf bs n m .order) ≡ n
-unfolding sheetOf
+unfolding couplingsOf orderOf
 order-length bs n m = length-map-counting _ 0 n
 
 pub size-is : (bs : List ℕ) (n m : ℕ) → sheetOf bs n m .size ≡ n
-unfolding sheetOf
+unfolding couplingsOf orderOf
 size-is bs n m = refl
 
 well-in : (bs : List ℕ) → fault bs ≡ None → Well (sheetOf bs (field bs 5 10) (field bs 15 17))

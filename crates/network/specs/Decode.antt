@@ -69,13 +69,15 @@ bodyFault bs n m =
 unfoldable pub fault : List ℕ → Option Fault
 fault bs = orElse (headerFault bs) (bodyFault bs (field bs 5 10) (field bs 15 17))
 
--- the values at their places
-unfoldable pub sheetOf : List ℕ → ℕ → ℕ → Sheet
-sheetOf bs n m = record {
-  size = n;
-  couplings = map (λ k. (valueAt bs (width n) (2 * k), valueAt bs (width n) (2 * k + 1))) (counting 0 m);
-  order = map (λ k. valueAt bs (width n) (2 * m + k)) (counting 0 n);
-}
+-- the values at their places: the couplings, then the order
+unfoldable pub couplingsOf : List ℕ → ℕ → ℕ → List (ℕ × ℕ)
+couplingsOf bs n m = map (λ k. (valueAt bs (width n) (2 * k), valueAt bs (width n) (2 * k + 1))) (counting 0 m)
+
+unfoldable pub orderOf : List ℕ → ℕ → ℕ → List ℕ
+orderOf bs n m = map (λ k. valueAt bs (width n) (2 * m + k)) (counting 0 n)
+
+abbrev pub sheetOf : List ℕ → ℕ → ℕ → Sheet
+sheetOf bs n m = record { size = n; couplings = couplingsOf bs n m; order = orderOf bs n m }
 
 unfoldable pub decode : List ℕ → Result Sheet Fault
 decode bs = unless (fault bs) (sheetOf bs (field bs 5 10) (field bs 15 17))

@@ -7,7 +7,7 @@ use Prim.Native.Nat.{ℕ, _<_, _≤_, max, min}
 use native.Mathlib.Nat.{max-comm, min-comm}
 use lib.Dec.{ltb, eqb}
 use Rattle.std.proofs.shelf.Tests.{cases-eq, eq-eqb, ne-eqb, and-parts, ltb-true}
-use Rattle.network.specs.Decode.{sheetOf}
+use Rattle.network.specs.Decode.{sheetOf, couplingsOf, orderOf}
 use Rattle.network.specs.Net.{Net, Lawful}
 use Rattle.network.specs.Sheets.{Sheet, sheetNet, hasPair}
 
@@ -48,5 +48,5 @@ sheet-lawful s some few =
     }
 
 pub standing-lawful : (bs : List ℕ) (n m : ℕ) → 1 ≤ n → n ≤ 512 → Lawful (sheetNet (sheetOf bs n m))
-unfolding sheetOf
+unfolding couplingsOf orderOf
 standing-lawful bs n m some few = sheet-lawful (sheetOf bs n m) some few

@@ -6,7 +6,7 @@ use lib.ListN.{length, drop}
 use Rattle.std.specs.Iters.{counting}
 use Rattle.std.proofs.shelf.Results.{err-from-errBy}
 use Rattle.network.specs.Sheets.{Sheet}
-use Rattle.network.specs.Decode.{sheetOf, valueAt, done, orderAfter, heldAfter}
+use Rattle.network.specs.Decode.{sheetOf, couplingsOf, orderOf, valueAt, done, orderAfter, heldAfter}
 use Rattle.network.specs.SheetView.{sheetIn}
 use Rattle.network.proofs.Stages.{fit-err, fit-short, fit-ok, stands}
 use Rattle.network.proofs.sheets.reading.read_sheet.Needs as need
@@ -27,7 +27,7 @@ returns-then-order-counts c =
     record { answer = sym (ap done fit); order = sym (ap (λ x. orderAfter x list) fit); held = sym (ap (λ x. heldAfter x old) fit); place = refl }
 
 pub returns : need.returns
-unfolding sheetOf
+unfolding couplingsOf orderOf
 returns c =
     let bs = c .args .sheet .now in
     let n = c .in-Continue-counts .counts .stations in
