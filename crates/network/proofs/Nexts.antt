@@ -17,10 +17,10 @@ unfolding firstFrom
 first-is test from t zero l h e none = absurd (omega arith)
 first-is test from t (suc k) l h e none =
     ⊎-elim
-      (λ same. cond-true _ _ _ (ap test same ∙ e) ∙ ap Some same)
-      (λ other. cond-false _ _ _ (none from (omega arith) (omega arith))
-        ∙ first-is test (suc from) t k (omega arith) (omega arith) e (λ i g s. none i (omega arith) s))
-      (cases-eq from t)
+    (λ same. cond-true _ _ _ (ap test same ∙ e) ∙ ap Some same)
+    (λ other. cond-false _ _ _ (none from (omega arith) (omega arith))
+    ∙ first-is test (suc from) t k (omega arith) (omega arith) e (λ i g s. none i (omega arith) s))
+    (cases-eq from t)
 
 first-none : (test : ℕ → Bool) (from k : ℕ) → ((i : ℕ) → from ≤ i → i < from + k → test i ≡ false) → firstFrom test from k ≡ None
 unfolding firstFrom

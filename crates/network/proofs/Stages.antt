@@ -14,13 +14,10 @@ use Rattle.std.proofs.shelf.Tests.{cond-true, cond-false, lt-ltb, le-ltb}
 use Rattle.network.proofs.Faults.{orElse-some, orElse-past, unless-err, unless-ok}
 use Rattle.network.specs.Decode.{placeOf, headerFault, pairFault, placedFault, endFault, bodyFault, fault, sheetOf, couplingsOf, orderOf, decode, faultless, Stands, fitting}
 use Rattle.network.specs.declared.sheets.Header.{Header}
-use Rattle.network.specs.Parts.{headerIn, headOf, sizesOf}
+use Rattle.network.specs.Parts.{headerIn, headOf}
 use Rattle.network.specs.Fields.{field}
 use Rattle.network.specs.Refusals.{Fault, at, orElse, firstFault, unless}
 use Rattle.network.specs.Sheets.{Sheet, width}
-
-pub sizes-err : (bs : List ℕ) (e : Fault) → fault bs ≡ Some e → Err e ≡ sizesOf bs
-sizes-err bs e h = sym (ap (λ o. unless o (headerIn bs)) h)
 
 pub head-err : (bs : List ℕ) (e : Fault) → Err e ≡ headOf bs → fault bs ≡ Some e
 unfolding fault
@@ -55,38 +52,17 @@ module _ (bs cs : List ℕ) (n m w : ℕ) (same : cs ≡ bs) (is : w ≡ width n
       orElse-past _ _ (sym pairs-as ∙ unless-ok _ (tt {0}) (tt {0}) h .0)
       ∙ ap (λ (x : ℕ). orElse (firstFault (placedFault bs n x (2 * m)) n) (endFault bs (placeOf x (2 * m + n)))) (sym is)
 
-pub sizes-ok : (bs : List ℕ) (p : Header) → Ok p ≡ headOf bs → fault bs ≡ None → Ok p ≡ sizesOf bs
-sizes-ok bs p h none =
-    let got = unless-ok (headerFault bs) (headerIn bs) p h in
-    let make : Header → Result Header Fault = λ x. Ok x in
-    ap make (got .1) ∙ sym (ap (λ o. unless o (headerIn bs)) none)
+-- ---- what the checks say of the whole
 
--- ---- what the sizes say of the whole
-
-pub decode-err : (bs : List ℕ) (e : Fault) → Err e ≡ sizesOf bs → decode bs ≡ Err e
+pub decode-err : (bs : List ℕ) (e : Fault) → fault bs ≡ Some e → decode bs ≡ Err e
 unfolding decode
-decode-err bs e h = ap (λ o. unless o (sheetOf bs (field bs 5 10) (field bs 15 17))) (unless-err (fault bs) _ e h)
+decode-err bs e h = ap (λ o. unless o (sheetOf bs (field bs 5 10) (field bs 15 17))) h
 
-pub decode-ok : (bs : List ℕ) (p : Header) → Ok p ≡ sizesOf bs → decode bs ≡ Ok (sheetOf bs (p .stations) (p .couplings))
+pub decode-ok : (bs : List ℕ) (p : Header) → Ok p ≡ headOf bs → fault bs ≡ None
+    → (decode bs ≡ Ok (sheetOf bs (p .stations) (p .couplings))) × Stands bs (p .stations) (p .couplings)
 unfolding decode
-decode-ok bs p h =
-    let got = counted bs p (fault bs) h in
-    ap₂ unless (got .0) (ap₂ (sheetOf bs) (sym (got .1)) (sym (got .2)))
-
-pub stands : (bs : List ℕ) (p : Header) → Ok p ≡ sizesOf bs → Stands bs (p .stations) (p .couplings)
-stands bs p h =
-    let got = counted bs p (fault bs) h in
-    (ap faultless (got .0), sym (got .1), sym (got .2))
-
--- ---- an order that fits the list, or not
-
-pub fit-err : (bs : List ℕ) (l : ℕ) (e : Fault) → Err e ≡ sizesOf bs → fitting (decode bs) l ≡ Err e
-fit-err bs l e h = ap (λ x. fitting x l) (decode-err bs e h)
-
-pub fit-short : (bs : List ℕ) (l : ℕ) (p : Header) → Ok p ≡ sizesOf bs → l < p .stations → fitting (decode bs) l ≡ Err (at 16 (p .stations))
-unfolding couplingsOf orderOf
-fit-short bs l p h lt = ap (λ x. fitting x l) (decode-ok bs p h) ∙ cond-true _ _ _ (lt-ltb l (p .stations) lt)
-
-pub fit-ok : (bs : List ℕ) (l : ℕ) (p : Header) → Ok p ≡ sizesOf bs → p .stations ≤ l → fitting (decode bs) l ≡ Ok (sheetOf bs (p .stations) (p .couplings))
-unfolding couplingsOf orderOf
-fit-ok bs l p h le = ap (λ x. fitting x l) (decode-ok bs p h) ∙ cond-false _ _ _ (le-ltb l (p .stations) le)
+decode-ok bs p h none =
+    let got = counted bs p (headerFault bs) h in (
+      ap₂ unless none (ap₂ (sheetOf bs) (sym (got .1)) (sym (got .2))),
+      (ap faultless none, sym (got .1), sym (got .2)),
+    )

@@ -3,7 +3,7 @@ use mathlib.Core.List.{List}
 use Prim.Native.Nat.{ℕ, _+_, _*_}
 use Rattle.std.specs.declared.result.Result.{Result}
 use Rattle.network.specs.declared.sheets.Header.{Header}
-use Rattle.network.specs.Decode.{headerFault, pairFault, fault, valueAt}
+use Rattle.network.specs.Decode.{headerFault, pairFault, valueAt}
 use Rattle.network.specs.Fields.{field}
 use Rattle.network.specs.Refusals.{Fault, unless}
 
@@ -18,10 +18,6 @@ headOf bs = unless (headerFault bs) (headerIn bs)
 -- the coupling k
 abbrev pub pairOf : List ℕ → ℕ → ℕ → ℕ → Result (ℕ × ℕ) Fault
 pairOf bs n w k = unless (pairFault bs n w k) (valueAt bs w (2 * k), valueAt bs w (2 * k + 1))
-
--- by the whole sheet
-abbrev pub sizesOf : List ℕ → Result Header Fault
-sizesOf bs = unless (fault bs) (headerIn bs)
 
 -- the coupling k as one number, which rises with k
 unfoldable pub keyAt : List ℕ → ℕ → ℕ → ℕ

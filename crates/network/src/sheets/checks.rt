@@ -4,9 +4,10 @@ ghost use mathlib.Core.Path.{_≡_};
 ghost use Prim.Native.Nat.{ℕ, _+_, _*_, _<_, _≤_, _^_, _-_};
 ghost use denote.Ref.{now};
 ghost use Rattle.std.specs.Results.{Cases};
-ghost use Rattle.network.specs.Decode.{placeOf, valueAt, pairFault, placedFault, endFault};
-ghost use Rattle.network.specs.Parts.{headOf, pairOf, sizesOf};
-ghost use Rattle.network.specs.Refusals.{outcome, finding, firstFault, unless};
+ghost use Rattle.network.specs.Decode.{placeOf, valueAt, pairFault, placedFault, endFault, decode, sheetOf, Stands};
+ghost use Rattle.std.specs.declared.result.Result.the-variants.{Ok, Err};
+ghost use Rattle.network.specs.Parts.{headOf, pairOf};
+ghost use Rattle.network.specs.Refusals.{told, outcome, firstFault, unless};
 ghost use Rattle.network.specs.Sheets.{width, before};
 use crate::bit_fields::BitReader;
 use crate::bit_fields::field_of;
@@ -149,7 +150,8 @@ fn check_end(sheet: &[u8], t: usize) -> Result<(), Refusal>
 
 // The whole sheet, in one pass: what its header counts, or its first fault.
 pub(crate) fn check_sheet(sheet: &[u8]) -> Result<Header, Refusal>
-    ensures value { λ r. ⌜ outcome r ≡ sizesOf (now (sheet .entry)) ⌝ }
+    ensures value { λ r. ⌜ Cases r (λ h. decode (now (sheet .entry)) ≡ Ok (sheetOf (now (sheet .entry)) (h .stations) (h .couplings))) (λ e. decode (now (sheet .entry)) ≡ Err (told e)) ⌝ }
+    ensures stands { λ r. ⌜ Cases r (λ h. Stands (now (sheet .entry)) (h .stations) (h .couplings)) (λ _. Unit {0}) ⌝ }
     ensures small { λ r. ⌜ Cases r (λ h. (1 ≤ h .stations) × (h .stations ≤ 512) × (h .couplings < 2 ^ 17)) (λ _. Unit {0}) ⌝ }
 {
     let counts = header(sheet)?;

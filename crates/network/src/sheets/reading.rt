@@ -1,13 +1,12 @@
 //! Reading a sheet: into a network place, and its order into a list of the caller's.
 //! A refused sheet leaves both as they were.
-ghost use mathlib.Core.List.{[], _∷_, map, _++_};
+ghost use mathlib.Core.List.{[], _∷_, _++_};
 ghost use mathlib.Core.Path.{_≡_};
-ghost use Prim.Native.Nat.{ℕ, _+_, _*_, _<_, _≤_, _^_};
+ghost use Prim.Native.Nat.{_<_, _≤_, _^_};
 ghost use lib.ListN.{length, drop};
 ghost use denote.Ref.{now};
-ghost use Rattle.std.specs.Iters.{counting};
 ghost use Rattle.std.specs.Results.{Cases};
-ghost use Rattle.network.specs.Decode.{valueAt, reading, done, orderAfter, heldAfter};
+ghost use Rattle.network.specs.Decode.{orderOf, reading, done, orderAfter, heldAfter};
 ghost use Rattle.network.specs.Refusals.{outcome};
 ghost use Rattle.network.specs.SheetView.{sheetIn};
 ghost use Rattle.network.specs.Sheets.{loneSheet};
@@ -35,12 +34,13 @@ impl<'a> SheetNetwork<'a> {
     }
 }
 
-// Writes the stations of the order, from the field `s` on, to the front of the list.
-fn put_order(sheet: &[u8], w: usize, s: u32, n: u32, order: &mut [u16])
-    requires { ⌜ w ≤ 9 ⌝ ∗ ⌜ s < 2 ^ 18 ⌝ ∗ ⌜ n ≤ 512 ⌝ ∗ ⌜ n ≤ length (now order) ⌝ }
-    ensures { λ _. ⌜ now (order .exit) ≡ map (λ k. valueAt (now (sheet .entry)) w (s + k)) (counting 0 n) ++ drop n (now (order .entry)) ⌝ }
+// Writes the order of a sheet of `n` stations and `m` couplings to the front of the list.
+fn put_order(sheet: &[u8], n: u32, m: u32, order: &mut [u16])
+    requires { ⌜ m < 2 ^ 17 ⌝ ∗ ⌜ n ≤ 512 ⌝ ∗ ⌜ n ≤ length (now order) ⌝ }
+    ensures { λ _. ⌜ now (order .exit) ≡ orderOf (now (sheet .entry)) n m ++ drop n (now (order .entry)) ⌝ }
 {
-    let mut at = place_of(w, s);
+    let w = width_of(n);
+    let mut at = place_of(w, 2 * m);
     for k in 0..n {
         order[k as usize] = field_of(sheet, at, w) as u16;
         at += w;
@@ -62,13 +62,7 @@ pub fn read_sheet<'a>(
     if order.len() < counts.stations as usize {
         return Err(Refusal::TooShort(counts.stations as usize));
     }
-    put_order(
-        sheet,
-        width_of(counts.stations),
-        2 * counts.couplings,
-        counts.stations,
-        order,
-    );
+    put_order(sheet, counts.stations, counts.couplings, order);
     *place = SheetNetwork {
         bytes: sheet,
         size: counts.stations,

@@ -27,10 +27,10 @@ returns-then-not-is-new c =
     let seen : getD xs k 0 < c .args .n → getD (c .loop-k .seen) (getD xs k 0) false ≡ among xs k (getD xs k 0) = λ lt. c .loop-k .inv .2 (getD xs k 0) (omega (arith, c .pre .1)) in
     let told = c .if-not-is-new .ensures tt in
     let here : f k ≡ refuse 14 k =
-          ⊎-elim
-            (λ lt. let m = seen lt in grind (arith, tells))
-            (λ ge. grind (arith, tells))
-            (cases-lt (getD xs k 0) (c .args .n)) in
+    ⊎-elim
+    (λ lt. let m = seen lt in grind (arith, tells))
+    (λ ge. grind (arith, tells))
+    (cases-lt (getD xs k 0) (c .args .n)) in
     sym (ap (λ o. unless o tt) (fault-found f k (c .args .n) (at 14 k) (c .loop-k .inv .0) here (omega arith)))
 
 pub loop-k-again : need.loop-k-again
@@ -43,10 +43,11 @@ loop-k-again c =
     let told = c .if-not-is-new .ensures tt in
     let known : v < c .args .n = ltb-true _ _ (and-parts (ltb v (c .args .n)) _ (sym told) .0) in
     let m = c .loop-k .inv .2 v (omega arith) in
-    let here : f k ≡ None = grind (arith, tells) in
-    ( fault-more f k (c .loop-k .inv .0) here
-    , length-set (c .loop-k .seen) v true ∙ c .loop-k .inv .1
-    , mark-more (c .loop-k .seen) (λ i. getD xs i 0) k v refl (omega arith) (c .loop-k .inv .1) (c .loop-k .inv .2) )
+    let here : f k ≡ None = grind (arith, tells) in (
+      fault-more f k (c .loop-k .inv .0) here,
+      length-set (c .loop-k .seen) v true ∙ c .loop-k .inv .1,
+      mark-more (c .loop-k .seen) (λ i. getD xs i 0) k v refl (omega arith) (c .loop-k .inv .1) (c .loop-k .inv .2),
+    )
 
 pub returns : need.returns
 returns c =

@@ -9,13 +9,13 @@ use Rattle.std.proofs.shelf.Counted.{map-counting-more}
 use Rattle.network.proofs.Fields.{field-lt, field-small}
 use Rattle.network.specs.Fields.{field}
 use lib.Pow.{pow-mono}
-use Rattle.network.specs.Decode.{placeOf, valueAt}
+use Rattle.network.specs.Decode.{placeOf, valueAt, orderOf}
 use Rattle.network.proofs.Places.{place-next}
 use Rattle.network.proofs.sheets.reading.put_order.Needs as need
 
 pub cast-order : need.cast-order
 cast-order c =
-    let w = c .args .w in
+    let w = c .width-of-w .result in
     let le : w ≤ 9 = omega arith in
     let b : 2 ^ w ≤ 2 ^ 9 = pow-mono le in
     omega (arith, field-lt (c .args .sheet .now) (c .loop-k .at) w)
@@ -24,8 +24,8 @@ pub loop-k-again : need.loop-k-again
 unfolding valueAt
 loop-k-again c =
     let bs = c .args .sheet .now in
-    let w = c .args .w in
-    let s = c .args .s in
+    let w = c .width-of-w .result in
+    let s = 2 * c .args .m in
     let k = c .loop-k .k in
     let xs = c .loop-k .order in
     let old = c .args .order .now in
@@ -42,10 +42,12 @@ loop-k-again c =
     )
 
 pub returns : need.returns
+unfolding orderOf
 returns c =
     let n = c .args .n in
     let e : c .loop-k .k ≡ n = omega arith in
-    let F : ℕ → ℕ = λ i. valueAt (c .args .sheet .now) (c .args .w) (c .args .s + i) in
+    let F : ℕ → ℕ → ℕ = λ w i. valueAt (c .args .sheet .now) w (2 * c .args .m + i) in
     sym (take-append-drop (c .loop-k .k) (c .loop-k .order))
     ∙ ap₂ (λ (x y : List ℕ). x ++ y) (c .loop-k .inv .2) (c .loop-k .inv .3)
-    ∙ ap (λ (x : ℕ). map F (counting 0 x) ++ drop x (c .args .order .now)) e
+    ∙ ap (λ (x : ℕ). map (F (c .width-of-w .result)) (counting 0 x) ++ drop x (c .args .order .now)) e
+    ∙ ap (λ (w : ℕ). map (F w) (counting 0 n) ++ drop n (c .args .order .now)) (c .width-of-w .ensures .value)

@@ -8,7 +8,7 @@ use Rattle.network.proofs.sheets.reading.put_order.Given as given
 
 abbrev pub Inv-loop-k : given.InvT-loop-k
 Inv-loop-k l =
-    (l .at ≡ placeOf (l .w) (l .s + l .k))
-    × (l .at ≤ 32 + 9 * (l .s + l .k))
-    × (take (l .k) (l .order) ≡ map (λ k. valueAt (l .sheet) (l .w) (l .s + k)) (counting 0 (l .k)))
+    (l .at ≡ placeOf (l .w) (2 * l .m + l .k))
+    × (l .at ≤ 32 + 9 * (2 * l .m + l .k))
+    × (take (l .k) (l .order) ≡ map (λ k. valueAt (l .sheet) (l .w) (2 * l .m + k)) (counting 0 (l .k)))
     × (drop (l .k) (l .order) ≡ drop (l .k) (l .entry .order))
