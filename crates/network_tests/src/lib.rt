@@ -2,4 +2,8 @@
 //! Sheets are built and judged here by another method, over a list of single bits.
 mod bit_string;
 #[cfg(test)]
+mod lists;
+#[cfg(test)]
 mod sheets;
+#[cfg(test)]
+mod writing;
