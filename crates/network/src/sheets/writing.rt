@@ -1,6 +1,6 @@
 //! Writing a network and one of its orders as a sheet, into bytes of the caller's.
 //! A refused writing leaves the bytes as they were.
-ghost use mathlib.Core.List.{List, [], _∷_};
+ghost use mathlib.Core.List.{[], _∷_};
 ghost use mathlib.Core.Path.{_≡_};
 ghost use Prim.Native.Nat.{ℕ, _+_, _*_, _<_, _≤_, _^_};
 ghost use lib.ListN.{length, getD, replicate};
@@ -88,14 +88,14 @@ fn clear(bytes: &mut [u8])
     }
 }
 
-// How many couplings the station `a` has with those below it. It asks once for each of them.
-fn count_row<N: Network>(network: &N, a: u16) -> u32
-    ensures value { λ r. ⌜ r ≡ length (rowTo (N·Network .meaning (now (network .entry)) .coupled) a a) ⌝ }
-    ensures small { λ r. ⌜ r ≤ a ⌝ }
+// How many couplings a station has with those below it. It asks once for each of them.
+fn count_row<N: Network>(network: &N, station: u16) -> u32
+    ensures value { λ r. ⌜ r ≡ length (rowTo (N·Network .meaning (now (network .entry)) .coupled) station station) ⌝ }
+    ensures small { λ r. ⌜ r ≤ station ⌝ }
 {
     let mut couplings = 0;
-    for b in 0..a {
-        if network.coupled(a, b) {
+    for lower in 0..station {
+        if network.coupled(station, lower) {
             couplings += 1;
         }
     }
@@ -109,8 +109,8 @@ fn count_pairs<N: Network>(network: &N) -> u32
 {
     let n = network.size();
     let mut couplings = 0;
-    for a in 0..n {
-        couplings += count_row(network, a);
+    for station in 0..n {
+        couplings += count_row(network, station);
     }
     couplings
 }
