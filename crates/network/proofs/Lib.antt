@@ -15,7 +15,7 @@ pub mod Standing
 pub mod Takes
 pub mod Trips
 pub mod Wells
+pub mod WholeSheets
 pub mod Widths
 pub mod Windows
 pub mod Writes
-pub mod Written

@@ -95,7 +95,7 @@ unfolding flat
 flat-append [] qs = refl
 flat-append (p ∷ ps) qs = ap (λ l. p .0 ∷ (p .1 ∷ l)) (flat-append ps qs)
 
-pub pairBits-append : (w : ℕ) (ps qs : List (ℕ × ℕ)) → pairBits w (ps ++ qs) ≡ pairBits w ps ++ pairBits w qs
+pairBits-append : (w : ℕ) (ps qs : List (ℕ × ℕ)) → pairBits w (ps ++ qs) ≡ pairBits w ps ++ pairBits w qs
 unfolding pairBits
 pairBits-append w ps qs = ap (spread w) (flat-append ps qs) ∙ spread-append w (flat ps) (flat qs)
 

@@ -138,7 +138,8 @@ fn put_sheet<N: Network>(network: &N, order: &[u16], couplings: u32, out: &mut [
 }
 
 /// Writes the sheet of a network and one of its orders to the front of the bytes, and answers its length.
-/// It asks twice for each two stations, to count the couplings and to write them.
+/// The bytes behind it stay, as do all of them on a refusal.
+/// It asks the network twice for each two stations, once to count the couplings and once to write them.
 pub fn write_sheet<N: Network>(network: &N, order: &[u16], out: &mut [u8]) -> Result<usize, Refusal>
     ensures answer { λ r. ⌜ outcome r ≡ unless (writeFault (N·Network .meaning (now (network .entry))) (now (order .entry)) (length (now (out .entry)))) (length (bytesOf (N·Network .meaning (now (network .entry))) (now (order .entry)))) ⌝ }
     ensures out { λ _. ⌜ now (out .exit) ≡ bufferAfter (writeFault (N·Network .meaning (now (network .entry))) (now (order .entry)) (length (now (out .entry)))) (bytesOf (N·Network .meaning (now (network .entry))) (now (order .entry))) (now (out .entry)) ⌝ }
