@@ -1,14 +1,13 @@
 -- How many couplings rows have, and all rows together.
 use mathlib.Core.Path.{_≡_, refl, ap, _∙_}
 use mathlib.Core.Bool.{Bool, true, false, cond}
-use mathlib.Core.List.{List, [], _∷_}
-use Prim.Native.Nat.{ℕ, _+_, _*_, _^_, _≤_, _<_}
-use native.Mathlib.Nat.{mul-le-mul-right}
+use mathlib.Core.List.{[], _∷_}
+use Prim.Native.Nat.{ℕ, _+_, _^_, _≤_, _<_}
 use native.Mathlib.Numerals.{add-one}
-use native.Mathlib.Omega.{arith}
 use lib.ListN.{length}
 use Rattle.std.proofs.shelf.Lists.{length-append}
-use Rattle.network.proofs.SheetPairs.{pairs-square}
+use Rattle.network.proofs.SheetPairs.{pairs-short}
+use Rattle.network.proofs.Trips.{pairs-few as few}
 use Rattle.network.specs.Sheets.{rowTo, pairsTo}
 
 pub row-none : (C : ℕ → ℕ → Bool) (a : ℕ) → length (rowTo C a 0) ≡ 0
@@ -31,5 +30,5 @@ pub pairs-more : (C : ℕ → ℕ → Bool) (a : ℕ) → length (pairsTo C (a +
 unfolding pairsTo
 pairs-more C a = rw add-one (length-append (pairsTo C a) (rowTo C a a))
 
-pub pairs-few : (C : ℕ → ℕ → Bool) (a : ℕ) → a ≤ 512 → length (pairsTo C a) < 2 ^ 17
-pairs-few C a h = let b : a * a ≤ 512 * a = mul-le-mul-right a h in omega (arith, pairs-square C a)
+pub pairs-few : (C : ℕ → ℕ → Bool) (n : ℕ) → n ≤ 512 → length (pairsTo C n) < 2 ^ 17
+pairs-few C n h = few n (length (pairsTo C n)) h (pairs-short C n)

@@ -20,7 +20,7 @@ pub mod Takes
 pub mod ToldApart
 pub mod Trips
 pub mod Wells
+pub mod WholeSheets
 pub mod Widths
 pub mod Windows
 pub mod Writes
-pub mod Written

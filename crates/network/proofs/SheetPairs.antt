@@ -167,7 +167,7 @@ unfolding rowTo
 row-short C x zero = omega arith
 row-short C x (suc y) = omega (arith, length-append (rowTo C x y) (cond (C x y) ((x, y) ∷ []) []), one-short (C x y) (x, y), row-short C x y)
 
-pub pairs-square : (C : ℕ → ℕ → Bool) (n : ℕ) → 2 * length (pairsTo C n) + n ≤ n * n
+pairs-square : (C : ℕ → ℕ → Bool) (n : ℕ) → 2 * length (pairsTo C n) + n ≤ n * n
 unfolding pairsTo
 pairs-square C zero = omega arith
 pairs-square C (suc n) =

@@ -1,5 +1,5 @@
 -- Bits that are written one part after another.
-use mathlib.Core.Path.{_≡_, refl, sym, ap, ap₂, _∙_, subst}
+use mathlib.Core.Path.{_≡_, refl, sym, ap, _∙_, subst}
 use mathlib.Core.Bool.{Bool, true, false, cond}
 use mathlib.Core.List.{List, [], _∷_, _++_, append-assoc}
 use mathlib.Core.Logic.{⊎-elim}
@@ -95,7 +95,7 @@ unfolding flat
 flat-append [] qs = refl
 flat-append (p ∷ ps) qs = ap (λ l. p .0 ∷ (p .1 ∷ l)) (flat-append ps qs)
 
-pub pairBits-append : (w : ℕ) (ps qs : List (ℕ × ℕ)) → pairBits w (ps ++ qs) ≡ pairBits w ps ++ pairBits w qs
+pairBits-append : (w : ℕ) (ps qs : List (ℕ × ℕ)) → pairBits w (ps ++ qs) ≡ pairBits w ps ++ pairBits w qs
 unfolding pairBits
 pairBits-append w ps qs = ap (spread w) (flat-append ps qs) ∙ spread-append w (flat ps) (flat qs)
 

@@ -1,6 +1,6 @@
 //! Writing a network and one of its orders as a sheet, into bytes of the caller's.
 //! A refused writing leaves the bytes as they were.
-ghost use mathlib.Core.List.{List, [], _∷_};
+ghost use mathlib.Core.List.{[], _∷_};
 ghost use mathlib.Core.Path.{_≡_};
 ghost use Prim.Native.Nat.{ℕ, _+_, _*_, _<_, _≤_, _^_};
 ghost use lib.ListN.{length, getD, replicate};
@@ -88,14 +88,14 @@ fn clear(bytes: &mut [u8])
     }
 }
 
-// How many couplings the station `a` has with those below it. It asks once for each of them.
-fn count_row<N: Network>(network: &N, a: u16) -> u32
-    ensures value { λ r. ⌜ r ≡ length (rowTo (N·Network .meaning (now (network .entry)) .coupled) a a) ⌝ }
-    ensures small { λ r. ⌜ r ≤ a ⌝ }
+// How many couplings a station has with those below it. It asks once for each of them.
+fn count_row<N: Network>(network: &N, station: u16) -> u32
+    ensures value { λ r. ⌜ r ≡ length (rowTo (N·Network .meaning (now (network .entry)) .coupled) station station) ⌝ }
+    ensures small { λ r. ⌜ r ≤ station ⌝ }
 {
     let mut couplings = 0;
-    for b in 0..a {
-        if network.coupled(a, b) {
+    for lower in 0..station {
+        if network.coupled(station, lower) {
             couplings += 1;
         }
     }
@@ -109,8 +109,8 @@ pub fn count_couplings<N: Network>(network: &N) -> u32
 {
     let n = network.size();
     let mut couplings = 0;
-    for a in 0..n {
-        couplings += count_row(network, a);
+    for station in 0..n {
+        couplings += count_row(network, station);
     }
     couplings
 }
@@ -138,7 +138,8 @@ fn put_sheet<N: Network>(network: &N, order: &[u16], couplings: u32, out: &mut [
 }
 
 /// Writes the sheet of a network and one of its orders to the front of the bytes, and answers its length.
-/// It asks twice for each two stations, to count the couplings and to write them.
+/// The bytes behind it stay, as do all of them on a refusal.
+/// It asks the network twice for each two stations, once to count the couplings and once to write them.
 pub fn write_sheet<N: Network>(network: &N, order: &[u16], out: &mut [u8]) -> Result<usize, Refusal>
     ensures answer { λ r. ⌜ outcome r ≡ unless (writeFault (N·Network .meaning (now (network .entry))) (now (order .entry)) (length (now (out .entry)))) (length (bytesOf (N·Network .meaning (now (network .entry))) (now (order .entry)))) ⌝ }
     ensures out { λ _. ⌜ now (out .exit) ≡ bufferAfter (writeFault (N·Network .meaning (now (network .entry))) (now (order .entry)) (length (now (out .entry)))) (bytesOf (N·Network .meaning (now (network .entry))) (now (order .entry))) (now (out .entry)) ⌝ }

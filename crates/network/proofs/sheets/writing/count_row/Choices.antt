@@ -3,5 +3,5 @@ use lib.ListN.{length}
 use Rattle.network.specs.Sheets.{rowTo}
 use Rattle.network.proofs.sheets.writing.count_row.Given as given
 
-abbrev pub Inv-loop-b : given.InvT-loop-b
-Inv-loop-b g l = l .couplings ≡ length (rowTo (g .N·Network .meaning (l .network) .coupled) (l .a) (l .b))
+abbrev pub Inv-loop-lower : given.InvT-loop-lower
+Inv-loop-lower g l = l .couplings ≡ length (rowTo (g .N·Network .meaning (l .network) .coupled) (l .station) (l .lower))

@@ -1,8 +1,8 @@
-use mathlib.Core.Path.{_≡_, sym, ap, _∙_, subst}
+use mathlib.Core.Path.{_≡_, sym, _∙_, subst}
 use mathlib.Core.List.{[], _∷_}
 use Prim.Native.Nat.{ℕ, _+_}
 use native.Mathlib.Omega.{arith}
-use Rattle.network.proofs.Writes.{puts-none, puts-both, row-none, row-yes, row-no, row-room}
+use Rattle.network.proofs.Writes.{puts-none, puts-both, length-pairBits, row-none, row-yes, row-no, row-room}
 use Rattle.network.specs.Sheets.{rowTo}
 use Rattle.network.specs.Writing.{Puts, pairBits}
 use Rattle.network.proofs.sheets.writing.put_row.Needs.{then-coupled, else-coupled}
@@ -16,7 +16,12 @@ pub put-pair-requires : need.put-pair-requires
 put-pair-requires g c κs =
     let C = g .N·Network .meaning (c .args .network .now) .coupled in
     let fits = row-room (c .args .w) C (c .args .a) (c .loop-b .b) (omega arith) (sym (c .coupled .ensures) ∙ c .if-coupled .taken) in
-    record { width = c .pre .width; fit = (c .pre .fit, omega arith); room = (omega (arith, c .loop-b .inv .place, c .loop-b .inv .size), omega (arith, c .loop-b .inv .size)) }
+    let one = length-pairBits (c .args .w) ((c .args .a, c .loop-b .b) ∷ []) in
+    record {
+      width = c .pre .width;
+      fit = (omega arith, omega arith);
+      room = (simp length-pairBits (omega (arith, c .loop-b .inv .place, c .loop-b .inv .size)), omega (arith, c .loop-b .inv .size));
+    }
 
 pub loop-b-again : need.loop-b-again
 loop-b-again g c =

@@ -1,6 +1,6 @@
 use borrow.Author.Needs.{needs}
 use mathlib.Core.Path.{_≡_, ap, _∙_, subst}
-use mathlib.Core.List.{List, _++_}
+use mathlib.Core.List.{_++_}
 use Prim.Native.Nat.{ℕ, _+_, _*_, _^_, _≤_, _<_}
 use native.Mathlib.Omega.{arith}
 use lib.ListN.{length}
@@ -8,7 +8,7 @@ use Rattle.network.proofs.Counts.{pairs-few}
 use Rattle.network.proofs.OrderChecks.{faultless-order}
 use Rattle.network.proofs.Places.{width-holds}
 use Rattle.network.proofs.Writes.{puts-both, length-headBits, wrote-pack}
-use Rattle.network.proofs.Written.{sheet-bits, sheet-length, sheet-room}
+use Rattle.network.proofs.WholeSheets.{sheet-bits, sheet-length, sheet-room}
 use Rattle.network.specs.Encode.{bytesOf}
 use Rattle.network.specs.Laws.{Bytes}
 use Rattle.network.specs.Sheets.{spread, width, pairsTo, bitsIn, sheetFrom, encode}

@@ -1,13 +1,14 @@
 use mathlib.Core.Path.{_≡_, ap, ap₂, sym, _∙_}
 use mathlib.Core.List.{List, _++_}
 use Prim.Native.Nat.{ℕ, _+_, _/_}
+use native.Mathlib.Omega.{arith}
 use lib.ListN.{length, drop}
 use Rattle.std.specs.declared.option.Option.the-variants.{None}
 use Rattle.std.specs.declared.result.Result.the-variants.{Ok}
 use Rattle.std.proofs.shelf.Lists.{length-take-le}
 use Rattle.std.proofs.shelf.Results.{err-from-errBy}
 use Rattle.network.proofs.Faults.{unless-ok, unless-err}
-use Rattle.network.proofs.Written.{need-is, write-unordered, write-short, write-fine}
+use Rattle.network.proofs.WholeSheets.{need-is, write-unordered, write-short, write-fine}
 use Rattle.network.specs.Encode.{bytesOf, bufferAfter}
 use Rattle.network.specs.Orders.{orderFault}
 use Rattle.network.specs.Refusals.{unless}
@@ -44,7 +45,7 @@ returns-then-out-need g c =
     let net = g .N·Network .meaning (c .args .network .now) in
     let order = c .args .order .now in
     let out = c .args .out .now in
-    let found = write-short net order (length out) _ (ordered g here) (long g here) (c .if-out-need .taken) in
+    let found = write-short net order (length out) _ (ordered g here) (long g here) (omega arith) in
     record {
       answer = sym (ap (λ o. unless o (length (bytesOf net order))) found);
       out = sym (ap (λ o. bufferAfter o (bytesOf net order) out) found);
@@ -56,7 +57,7 @@ put-sheet-requires g c κs =
     record {
       order = ordered g here;
       count = c .count-couplings-couplings .ensures .value;
-      long = length-take-le _ (c .args .out .now) (c .if-out-need .left) ∙ long g here;
+      long = length-take-le _ (c .args .out .now) (omega arith) ∙ long g here;
     }
 
 pub returns : need.returns
@@ -65,7 +66,7 @@ returns g c =
     let net = g .N·Network .meaning (c .args .network .now) in
     let order = c .args .order .now in
     let out = c .args .out .now in
-    let found = write-fine net order (length out) _ (ordered g here) (long g here) (c .if-out-need .left) in
+    let found = write-fine net order (length out) _ (ordered g here) (long g here) (omega arith) in
     record {
       answer = ap (λ (x : ℕ). Ok x) (long g here) ∙ sym (ap (λ o. unless o (length (bytesOf net order))) found);
       out = ap₂ (λ (x : List ℕ) (y : ℕ). x ++ drop y out) (c .put-sheet .ensures) (long g here) ∙ sym (ap (λ o. bufferAfter o (bytesOf net order) out) found);

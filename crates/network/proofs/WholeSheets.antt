@@ -1,6 +1,6 @@
 -- The whole sheet of a network and an order: its bits, its length, and what a writing of it finds.
-use mathlib.Core.Path.{_≡_, refl, sym, ap, ap₂, _∙_}
-use mathlib.Core.Bool.{Bool, cond}
+use mathlib.Core.Path.{_≡_, sym, ap, ap₂, _∙_}
+use mathlib.Core.Bool.{cond}
 use mathlib.Core.List.{List, _++_, append-assoc}
 use Prim.Native.Nat.{ℕ, _+_, _*_, _/_, _^_, _≤_, _<_}
 use native.Mathlib.Nat.{mul-le-mul-right}
@@ -23,7 +23,7 @@ use Rattle.network.specs.Encode.{bytesOf, writeFault}
 use Rattle.network.specs.Net.{Net, Lawful}
 use Rattle.network.specs.Orders.{orderFault}
 use Rattle.network.specs.Refusals.{Fault, refuse}
-use Rattle.network.specs.Sheets.{bitsOf, spread, flat, named, pack, bitsIn, encode, width, pairsTo, sheetFrom}
+use Rattle.network.specs.Sheets.{bitsOf, spread, flat, named, bitsIn, encode, width, pairsTo, sheetFrom}
 use Rattle.network.specs.Writing.{headBits, pairBits}
 
 -- ---- its bits
