@@ -13,3 +13,4 @@ pub mod Walks
 pub mod Listing
 pub mod Leaving
 pub mod Afterwards
+pub mod Drops

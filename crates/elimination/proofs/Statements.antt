@@ -121,7 +121,7 @@ spare-pairs-can-go n H s p u v h e =
     let xs = p .0 in
     let o = p .1 in
     let l = s .below u v h in
-    let f = spare-from n H s u v e in
+    let f = spare-from n H u v (s .below) e in
     let t = removal H (s .symmetric) (s .irreflexive) u v h xs (closed-from H xs (p .2)) (o .once) (λ a b _ _ ne ua va ub vb. f a ua va b ne ub vb) (o .all u (l .0)) (o .all v (l .1)) in
     (t .0, record { once = t .2; all = λ a k. t .3 a (o .all a k); only = λ a j. o .only a (t .4 a j) }, closed-to (without H u v) (t .0) (t .1))
 

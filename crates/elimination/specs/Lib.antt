@@ -5,3 +5,4 @@ pub mod Theorems
 pub mod Words
 pub mod Kept
 pub mod View
+pub mod Dropping

@@ -1,5 +1,6 @@
 //! Elimination of stations: sets of pairs, orders, filled pairs, and the algorithms that find orders with little fill.
 //! An inner crate: the plan stands on it, and no user calls it.
+mod dropping;
 mod filling;
 mod order;
 mod pair_set;
@@ -7,6 +8,8 @@ pub mod theory;
 mod tree;
 mod words;
 
+pub use dropping::drop_spare;
+pub use dropping::is_spare;
 pub use filling::filled_pairs;
 pub use order::EliminationOrder;
 pub use pair_set::PairSet;
