@@ -14,3 +14,4 @@ pub mod Listing
 pub mod Leaving
 pub mod Afterwards
 pub mod Drops
+pub mod Peel

@@ -22,9 +22,9 @@ Lost G H = (a b : ℕ) × (G a b ≡ true) × (H a b ≡ false) × (a < 512) × 
 abbrev pub Tight : ℕ → Graph → Graph → Type 0
 Tight n C G = (u v : ℕ) → G u v ≡ true → C u v ≡ false → spare n G u v ≡ true → ⊥
 
--- whether the row a is to be looked at again
+-- whether the mark of a is set
 abbrev pub marked : List Bool → ℕ → Bool
-marked again a = getD again a false
+marked marks a = getD marks a false
 
 -- no pair outside C is spare whose two rows are both unmarked
 abbrev pub Looked : Graph → Graph → List Bool → Type 0

@@ -8,6 +8,7 @@ ghost use lib.ListN.{getD};
 ghost use Rattle.elimination.specs.Dropping.{Looked, LookedTo, Lost, Ready, Tight, marked};
 ghost use Rattle.elimination.specs.Graphs.{Sub, spare};
 ghost use Rattle.elimination.specs.View.{graph};
+use crate::marks::all_marked;
 use crate::pair_set::PairSet;
 
 /// Whether the common neighbours of `u` and `v` are pairwise neighbours: at most eight word steps for each neighbour of `u`.
@@ -24,12 +25,6 @@ pub fn is_spare(pairs: &PairSet, u: usize, v: usize) -> bool
         from = a + 1;
     }
     true
-}
-
-fn all_marked() -> [bool; 512]
-    ensures { λ r. ⌜ ((a : ℕ) → a < 512 → marked r a ≡ true) ⌝ }
-{
-    [true; 512]
 }
 
 /// Drops each fill pair of `u` that is spare when its turn comes, marks the rows of those pairs, and tells whether there was one.

@@ -2,8 +2,10 @@
 //! An inner crate: the plan stands on it, and no user calls it.
 mod dropping;
 mod filling;
+mod marks;
 mod order;
 mod pair_set;
+mod perfect;
 pub mod theory;
 mod tree;
 mod words;
@@ -13,6 +15,7 @@ pub use dropping::is_spare;
 pub use filling::filled_pairs;
 pub use order::EliminationOrder;
 pub use pair_set::PairSet;
+pub use perfect::perfect_order;
 pub use tree::count_of;
 pub use tree::parent_of;
 pub use tree::total_of;
