@@ -15,3 +15,4 @@ pub mod Leaving
 pub mod Afterwards
 pub mod Drops
 pub mod Peel
+pub mod Tightening

@@ -238,3 +238,6 @@ order-of order = fault-order (listed order) (order .size) (none-from (orderFault
 
 pub listed-length : (order : EliminationOrder) → length (listed order) ≡ order .size
 listed-length order = order-length (order .size) (listed order) (order-of order)
+
+pub order-sized : (order : EliminationOrder) (n : ℕ) → order .size ≡ n → Order n (listed order)
+order-sized order n e = subst (λ (m : ℕ). Order m (listed order)) e (order-of order)

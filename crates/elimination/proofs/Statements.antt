@@ -65,7 +65,7 @@ pub fill-sub : (C : Graph) (xs ys : List ℕ) → Sub (filled C ys) (filled C xs
 fill-sub C xs ys s a b h = let t = fill-parts C ys a b h in fill-from C xs a b (s a b (t .0)) (t .1)
 
 -- a pair that is in one fill and not in the other
-lacks : (C : Graph) (ys : List ℕ) (a b : ℕ) → fill C ys a b ≡ false → C a b ≡ false → filled C ys a b ≡ false
+pub lacks : (C : Graph) (ys : List ℕ) (a b : ℕ) → fill C ys a b ≡ false → C a b ≡ false → filled C ys a b ≡ false
 lacks C ys a b g c = ⊎-elim (λ (h : filled C ys a b ≡ true). absurd (both-ways (fill C ys a b) g (fill-from C ys a b h c))) (λ (h : filled C ys a b ≡ false). h) (cases-bool (filled C ys a b))
 
 not-fill : (C : Graph) (ys : List ℕ) (a b : ℕ) → filled C ys a b ≡ false → fill C ys a b ≡ false

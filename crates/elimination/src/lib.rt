@@ -1,6 +1,7 @@
 //! Elimination of stations: sets of pairs, orders, filled pairs, and the algorithms that find orders with little fill.
 //! An inner crate: the plan stands on it, and no user calls it.
 mod dropping;
+mod engine;
 mod filling;
 mod marks;
 mod order;
@@ -12,6 +13,8 @@ mod words;
 
 pub use dropping::drop_spare;
 pub use dropping::is_spare;
+pub use engine::seated;
+pub use engine::tightened;
 pub use filling::filled_pairs;
 pub use order::EliminationOrder;
 pub use pair_set::PairSet;
