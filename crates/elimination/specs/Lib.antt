@@ -6,3 +6,5 @@ pub mod Words
 pub mod Kept
 pub mod View
 pub mod Dropping
+pub mod AllOrders
+pub mod Examples

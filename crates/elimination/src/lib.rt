@@ -2,6 +2,7 @@
 //! An inner crate: the plan stands on it, and no user calls it.
 mod dropping;
 mod engine;
+pub mod examples;
 mod filling;
 mod marks;
 mod order;
