@@ -16,3 +16,4 @@ pub mod Afterwards
 pub mod Drops
 pub mod Peel
 pub mod Tightening
+pub mod Arrangements

@@ -1,4 +1,6 @@
 -- All orders of a few stations, and tests over them that compute.
+use mathlib.Core.Path.{_≡_}
+use mathlib.Core.Logic.{_⊎_}
 use mathlib.Core.Bool.{Bool, true, false, not, _&&_, _||_}
 use mathlib.Core.List.{List, [], _∷_, _++_, map}
 use Prim.Native.Nat.{ℕ, zero, suc}
@@ -35,3 +37,8 @@ within n F G = every (λ a. every (λ b. not (F a b) || G a b) (upTo n)) (upTo n
 -- no order has a fill that is a proper part of the fill of xs: a fill that lies within it is all of it
 abbrev pub minimal : ℕ → Graph → List ℕ → Bool
 minimal n C xs = everyOrder (λ ys. not (within n (fill C ys) (fill C xs)) || within n (fill C xs) (fill C ys)) (orders n)
+
+-- xs is one of the lists
+abbrev pub Listed : List ℕ → List (List ℕ) → Type 0
+Listed xs [] = ⊥
+Listed xs (ys ∷ yss) = (xs ≡ ys) ⊎ Listed xs yss
