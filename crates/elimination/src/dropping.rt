@@ -4,9 +4,9 @@
 ghost use mathlib.Core.Bool.{false, true};
 ghost use mathlib.Core.Path.{_≡_};
 ghost use Prim.Native.Nat.{ℕ, _<_, _≤_};
-ghost use lib.ListN.{getD};
+ghost use lib.ListN.{set};
 ghost use Rattle.elimination.specs.Dropping.{Looked, LookedTo, Lost, Ready, Tight, marked};
-ghost use Rattle.elimination.specs.Graphs.{Sub, spare};
+ghost use Rattle.elimination.specs.Graphs.{Sub, spare, without};
 ghost use Rattle.elimination.specs.View.{graph};
 use crate::marks::all_marked;
 use crate::pair_set::PairSet;
@@ -27,6 +27,18 @@ pub fn is_spare(pairs: &PairSet, u: usize, v: usize) -> bool
     true
 }
 
+/// Takes a pair out, and marks its two rows.
+fn drop_pair(pairs: &mut PairSet, again: &mut [bool; 512], u: usize, v: usize)
+    requires one { ⌜ u < 512 ⌝ }
+    requires two { ⌜ v < 512 ⌝ }
+    ensures pairs { λ _. ⌜ graph (now (pairs .exit)) ≡ without (graph (now (pairs .entry))) u v ⌝ }
+    ensures marks { λ _. ⌜ now (again .exit) ≡ set (set (now (again .entry)) u true) v true ⌝ }
+{
+    pairs.remove(u, v);
+    again[u] = true;
+    again[v] = true;
+}
+
 /// Drops each fill pair of `u` that is spare when its turn comes, marks the rows of those pairs, and tells whether there was one.
 fn drop_in_row(pairs: &mut PairSet, couplings: &PairSet, again: &mut [bool; 512], u: usize) -> bool
     requires one { ⌜ u < 512 ⌝ }
@@ -41,9 +53,7 @@ fn drop_in_row(pairs: &mut PairSet, couplings: &PairSet, again: &mut [bool; 512]
     let mut from = 0;
     while let Some(v) = pairs.next(u, from) {
         if !couplings.contains(u, v) && is_spare(pairs, u, v) {
-            pairs.remove(u, v);
-            again[u] = true;
-            again[v] = true;
+            drop_pair(pairs, again, u, v);
             dropped = true;
         }
         from = v + 1;
@@ -79,13 +89,13 @@ fn drop_round(pairs: &mut PairSet, couplings: &PairSet, again: &mut [bool; 512],
     ensures some { λ r. ⌜ (r ≡ true → Lost (graph (now (pairs .entry))) (graph (now (pairs .exit)))) ⌝ }
     ensures none { λ r. ⌜ (r ≡ false → Tight n (graph (now (couplings .entry))) (graph (now (pairs .exit)))) ⌝ }
 {
-    let mut dropped = false;
+    let mut lost = false;
     for u in 0..n {
         if look_again(pairs, couplings, again, u) {
-            dropped = true;
+            lost = true;
         }
     }
-    dropped
+    lost
 }
 
 /// Drops spare fill pairs, those too that became spare when others went, until none is left.

@@ -30,8 +30,8 @@ loop-v-again c =
           (first .2)
           (sym (c .contains .ensures) ∙ w .if-not-contains .taken)
           (sym (w .is-spare .ensures) ∙ w .if-is-spare .taken)
-          (ap graph (w .pairs-is) ∙ w .remove .ensures)
-          (w .again-is)
+          (ap graph (w .pairs-is) ∙ w .drop-pair .ensures .pairs)
+          (w .again-is ∙ w .drop-pair .ensures .marks)
           (w .dropped-is)
       | else-not-contains w ↦
           row-keep C (graph (c .args .pairs .now)) (c .args .again .now) u (c .loop-v .from) v G (graph (c .if-not-contains .pairs)) (c .loop-v .again) (c .if-not-contains .again) (c .loop-v .dropped) (c .if-not-contains .dropped)
