@@ -13,7 +13,7 @@ use Rattle.std.specs.declared.option.Option.{Option}
 use Rattle.std.specs.declared.option.Option.the-variants.{Some, None}
 use Rattle.std.proofs.shelf.Tests.{eq-eqb, ne-eqb, cond-true, cond-false, cases-bool, both-ways}
 use Rattle.network.specs.Bits.{countTo}
-use Rattle.elimination.specs.Elimination.{filled, fill, firstOf, howMany, orElse, pairs, parent, count, total}
+use Rattle.elimination.specs.Elimination.{filled, fill, firstOf, hangsFrom, howMany, orElse, pairs, total}
 use Rattle.elimination.specs.Graphs.{Graph, Sub}
 use Rattle.elimination.specs.Orders.{In, Distinct, later, lastOf, positionOf}
 use Rattle.elimination.proofs.Least.{filled-holds}
@@ -96,20 +96,15 @@ total-is n C xs = pairs-split (filled C xs) C n (filled-holds C xs)
 
 -- ---- the tree, by positions
 
-module _ (C F : Graph) (xs : List ℕ) (s k : ℕ) (e : F ≡ filled C xs) (d : Distinct xs) (h : k < length xs) (q : getD xs k 0 ≡ s) where
+module _ (F : Graph) (xs : List ℕ) (s k : ℕ) (d : Distinct xs) (h : k < length xs) (q : getD xs k 0 ≡ s) where
   pub rest-is : later xs s ≡ drop (k + 1) xs
   rest-is = ap (later xs) (sym q) ∙ later-drop xs k d h
 
-  parent-by : parent C xs s ≡ orElse (firstOf (F s) (drop (k + 1) xs)) (lastOf (drop (k + 1) xs))
-  parent-by =
-      ap (λ (G : Graph). orElse (firstOf (G s) (later xs s)) (lastOf (later xs s))) (sym e)
-      ∙ ap (λ (ys : List ℕ). orElse (firstOf (F s) ys) (lastOf ys)) rest-is
+  hangs-by : hangsFrom F xs s ≡ orElse (firstOf (F s) (drop (k + 1) xs)) (lastOf (drop (k + 1) xs))
+  hangs-by = ap (λ (ys : List ℕ). orElse (firstOf (F s) ys) (lastOf ys)) rest-is
 
-  pub parent-found : (t : ℕ) → firstOf (F s) (drop (k + 1) xs) ≡ Some t → Some t ≡ parent C xs s
-  parent-found t f = sym (parent-by ∙ ap (λ (o : Option ℕ). orElse o (lastOf (drop (k + 1) xs))) f)
+  pub hangs-first : (t : ℕ) → firstOf (F s) (drop (k + 1) xs) ≡ Some t → Some t ≡ hangsFrom F xs s
+  hangs-first t f = sym (hangs-by ∙ ap (λ (o : Option ℕ). orElse o (lastOf (drop (k + 1) xs))) f)
 
-  pub parent-hangs : (o : Option ℕ) → firstOf (F s) (drop (k + 1) xs) ≡ None → lastOf (drop (k + 1) xs) ≡ o → o ≡ parent C xs s
-  parent-hangs o f l = sym (parent-by ∙ ap (λ (o : Option ℕ). orElse o (lastOf (drop (k + 1) xs))) f ∙ l)
-
-  pub count-is : count C xs s ≡ howMany (F s) (later xs s)
-  count-is = ap (λ (G : Graph). howMany (G s) (later xs s)) (sym e)
+  pub hangs-last : (o : Option ℕ) → firstOf (F s) (drop (k + 1) xs) ≡ None → lastOf (drop (k + 1) xs) ≡ o → o ≡ hangsFrom F xs s
+  hangs-last o f l = sym (hangs-by ∙ ap (λ (o : Option ℕ). orElse o (lastOf (drop (k + 1) xs))) f ∙ l)

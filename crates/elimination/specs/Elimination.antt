@@ -37,14 +37,22 @@ abbrev pub orElse : Option ℕ → Option ℕ → Option ℕ
 orElse (Some a) other = Some a
 orElse None other = other
 
+-- the number of later stations that are neighbours of s in F
+abbrev pub laterNeighbours : Graph → List ℕ → ℕ → ℕ
+laterNeighbours F xs s = howMany (F s) (later xs s)
+
+-- the earliest later station that is a neighbour of s in F; if there is none, the last station, and none for the last one
+abbrev pub hangsFrom : Graph → List ℕ → ℕ → Option ℕ
+hangsFrom F xs s = orElse (firstOf (F s) (later xs s)) (lastOf (later xs s))
+
 -- the number of filled pairs that a station forms with later ones
 abbrev pub count : Graph → List ℕ → ℕ → ℕ
-count C xs s = howMany (filled C xs s) (later xs s)
+count C xs s = laterNeighbours (filled C xs) xs s
 
 -- the earliest later station with which a station forms a filled pair; if there is none, the last station of the order;
 -- the last station has no parent
 abbrev pub parent : Graph → List ℕ → ℕ → Option ℕ
-parent C xs s = orElse (firstOf (filled C xs s) (later xs s)) (lastOf (later xs s))
+parent C xs s = hangsFrom (filled C xs) xs s
 
 -- the number of pairs of stations below n
 unfoldable pub pairs : ℕ → Graph → ℕ

@@ -1,24 +1,16 @@
 //! The elimination tree of an order and its counts, from the filled pairs.
 //! `couplings` and `pairs` are those of one network and order: `pairs` are the filled pairs of that order.
 ghost use mathlib.Core.Path.{_≡_};
-ghost use Prim.Native.Nat.{_<_, _≤_, _*_};
-ghost use Rattle.elimination.specs.Elimination.{count, filled, parent, total};
-ghost use Rattle.elimination.specs.Graphs.{Simple};
+ghost use Prim.Native.Nat.{_<_};
+ghost use Rattle.elimination.specs.Elimination.{count, filled, hangsFrom, laterNeighbours, parent, total};
 ghost use Rattle.elimination.specs.View.{graph, listed};
 use crate::order::EliminationOrder;
 use crate::pair_set::PairSet;
 
-/// The earliest later station with which a station forms a filled pair, else the last one of the order; the last one has none.
-/// It looks at most at each later station once.
-pub fn parent_of(
-    couplings: &PairSet,
-    pairs: &PairSet,
-    order: &EliminationOrder,
-    station: u16,
-) -> Option<u16>
-    requires known { ⌜ station < now order .size ⌝ }
-    requires pairs { ⌜ graph (now pairs) ≡ filled (graph (now couplings)) (listed (now order)) ⌝ }
-    ensures { λ r. ⌜ r ≡ parent (graph (now (couplings .entry))) (listed (now (order .entry))) station ⌝ }
+/// The earliest later neighbour of a station, else the last station; the last one has none. It looks at each later station at most once.
+fn hangs_from(pairs: &PairSet, order: &EliminationOrder, station: u16) -> Option<u16>
+    requires { ⌜ station < now order .size ⌝ }
+    ensures { λ r. ⌜ r ≡ hangsFrom (graph (now (pairs .entry))) (listed (now (order .entry))) station ⌝ }
 {
     let size = order.size();
     let first = order.position(station) + 1;
@@ -35,11 +27,10 @@ pub fn parent_of(
     }
 }
 
-/// How many filled pairs a station forms with later ones. It looks at each later station once.
-pub fn count_of(couplings: &PairSet, pairs: &PairSet, order: &EliminationOrder, station: u16) -> u16
-    requires known { ⌜ station < now order .size ⌝ }
-    requires pairs { ⌜ graph (now pairs) ≡ filled (graph (now couplings)) (listed (now order)) ⌝ }
-    ensures { λ r. ⌜ r ≡ count (graph (now (couplings .entry))) (listed (now (order .entry))) station ⌝ }
+/// How many later neighbours a station has. It looks at each later station once.
+fn later_neighbours(pairs: &PairSet, order: &EliminationOrder, station: u16) -> u16
+    requires { ⌜ station < now order .size ⌝ }
+    ensures { λ r. ⌜ r ≡ laterNeighbours (graph (now (pairs .entry))) (listed (now (order .entry))) station ⌝ }
 {
     let mut found = 0;
     for k in order.position(station) + 1..order.size() {
@@ -48,6 +39,29 @@ pub fn count_of(couplings: &PairSet, pairs: &PairSet, order: &EliminationOrder, 
         }
     }
     found
+}
+
+/// The parent of a station: the earliest later station with which it forms a filled pair, else the last one of the order; the last one has none.
+pub fn parent_of(
+    couplings: &PairSet,
+    pairs: &PairSet,
+    order: &EliminationOrder,
+    station: u16,
+) -> Option<u16>
+    requires known { ⌜ station < now order .size ⌝ }
+    requires pairs { ⌜ graph (now pairs) ≡ filled (graph (now couplings)) (listed (now order)) ⌝ }
+    ensures { λ r. ⌜ r ≡ parent (graph (now (couplings .entry))) (listed (now (order .entry))) station ⌝ }
+{
+    hangs_from(pairs, order, station)
+}
+
+/// How many filled pairs a station forms with later ones.
+pub fn count_of(couplings: &PairSet, pairs: &PairSet, order: &EliminationOrder, station: u16) -> u16
+    requires known { ⌜ station < now order .size ⌝ }
+    requires pairs { ⌜ graph (now pairs) ≡ filled (graph (now couplings)) (listed (now order)) ⌝ }
+    ensures { λ r. ⌜ r ≡ count (graph (now (couplings .entry))) (listed (now (order .entry))) station ⌝ }
+{
+    later_neighbours(pairs, order, station)
 }
 
 /// How many fill pairs the order has: sixteen word steps for each station.

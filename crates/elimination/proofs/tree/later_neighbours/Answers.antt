@@ -8,16 +8,16 @@ use Rattle.elimination.specs.Elimination.{howMany}
 use Rattle.elimination.specs.Graphs.{Graph}
 use Rattle.elimination.specs.View.{graph, listed}
 use Rattle.elimination.proofs.Listing.{order-of, listed-length}
-use Rattle.elimination.proofs.Afterwards.{rest-is, count-is, many-more, many-none}
-use Rattle.elimination.proofs.tree.count_of.Needs as need
-use Rattle.elimination.proofs.tree.count_of.Needs.{then-contains, else-contains}
+use Rattle.elimination.proofs.Afterwards.{rest-is, many-more, many-none}
+use Rattle.elimination.proofs.tree.later_neighbours.Needs as need
+use Rattle.elimination.proofs.tree.later_neighbours.Needs.{then-contains, else-contains}
 
 pub loop-k-holds : need.loop-k-holds
 loop-k-holds c =
     let order = c .args .order .now in
     let l = listed-length order in
     let F : Graph = graph (c .args .pairs .now) in (
-      ap (howMany (F (c .args .station))) (rest-is (graph (c .args .couplings .now)) F (listed order) (c .args .station) (c .position-k .result) (c .pre .pairs) (order-of order .once) (omega (arith, c .position-k .ensures .small)) (c .position-k .ensures .there))
+      ap (howMany (F (c .args .station))) (rest-is F (listed order) (c .args .station) (c .position-k .result) (order-of order .once) (omega (arith, c .position-k .ensures .small)) (c .position-k .ensures .there))
           ∙ sym (zero-add _),
       omega arith,
     )
@@ -47,5 +47,4 @@ returns c =
     let small = c .position-k .ensures .small in
     let over : c .loop-k .k ≡ length (listed order) = omega (arith, c .loop-k .kept .k-end (omega arith)) in
     let none = many-none (F (c .args .station)) (listed order) (c .loop-k .k) over in
-    let is = count-is (graph (c .args .couplings .now)) F (listed order) (c .args .station) (c .position-k .result) (c .pre .pairs) (order-of order .once) (omega arith) (c .position-k .ensures .there) in
     omega (arith, c .loop-k .inv .0)

@@ -4,7 +4,7 @@ use lib.ListN.{drop}
 use Rattle.elimination.specs.Elimination.{howMany}
 use Rattle.elimination.specs.Orders.{later}
 use Rattle.elimination.specs.View.{graph, listed}
-use Rattle.elimination.proofs.tree.count_of.Given as given
+use Rattle.elimination.proofs.tree.later_neighbours.Given as given
 
 abbrev pub Inv-loop-k : given.InvT-loop-k
 Inv-loop-k l =

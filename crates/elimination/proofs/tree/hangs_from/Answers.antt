@@ -8,8 +8,8 @@ use Rattle.std.specs.declared.option.Option.the-variants.{Some, None}
 use Rattle.elimination.specs.Graphs.{Graph}
 use Rattle.elimination.specs.View.{graph, listed}
 use Rattle.elimination.proofs.Listing.{order-of, listed-length}
-use Rattle.elimination.proofs.Afterwards.{first-here, first-later, first-none, last-later, last-none, parent-found, parent-hangs}
-use Rattle.elimination.proofs.tree.parent_of.Needs as need
+use Rattle.elimination.proofs.Afterwards.{first-here, first-later, first-none, last-later, last-none, hangs-first, hangs-last}
+use Rattle.elimination.proofs.tree.hangs_from.Needs as need
 
 pub returns-then-contains : need.returns-then-contains
 returns-then-contains c =
@@ -19,7 +19,7 @@ returns-then-contains c =
     let xs = listed order in
     let s = c .args .station in
     let hit : F s (getD xs (c .loop-k .k) 0) ≡ true = sym (ap (F s) (c .station-other .ensures .value)) ∙ sym (c .contains .ensures) ∙ c .if-contains .taken in
-    parent-found (graph (c .args .couplings .now)) F xs s (c .position-first .result) (c .pre .pairs) (order-of order .once) (omega (arith, c .position-first .ensures .small)) (c .position-first .ensures .there) (c .station-other .result)
+    hangs-first F xs s (c .position-first .result) (order-of order .once) (omega (arith, c .position-first .ensures .small)) (c .position-first .ensures .there) (c .station-other .result)
     (c .loop-k .inv ∙ first-here (F s) xs (c .loop-k .k) (omega (arith, c .size-size .ensures)) hit ∙ ap (λ (t : ℕ). Some t) (sym (c .station-other .ensures .value)))
 
 pub loop-k-again : need.loop-k-again
@@ -40,7 +40,7 @@ returns-then-first-size c =
     let near : c .position-first .result + 1 < length xs = omega arith in
     let over : c .loop-k .k ≡ length xs = omega (arith, c .loop-k .kept .k-end (omega arith)) in
     let i : length xs - 1 ≡ c .size-size .result - 1 = omega arith in
-    parent-hangs (graph (c .args .couplings .now)) F xs (c .args .station) (c .position-first .result) (c .pre .pairs) (order-of order .once) (omega arith) (c .position-first .ensures .there) _
+    hangs-last F xs (c .args .station) (c .position-first .result) (order-of order .once) (omega arith) (c .position-first .ensures .there) _
     (c .loop-k .inv ∙ first-none (F (c .args .station)) xs (c .loop-k .k) over)
     (last-later xs (c .position-first .result + 1) near ∙ ap (λ (m : ℕ). Some (getD xs m 0)) i ∙ ap (λ (t : ℕ). Some t) (sym (c .station .ensures .value)))
 
@@ -54,6 +54,6 @@ returns-else-first-size c =
     let small = c .position-first .ensures .small in
     let end : c .position-first .result + 1 ≡ length xs = omega arith in
     let over : c .loop-k .k ≡ length xs = omega (arith, c .loop-k .kept .k-end (omega arith)) in
-    parent-hangs (graph (c .args .couplings .now)) F xs (c .args .station) (c .position-first .result) (c .pre .pairs) (order-of order .once) (omega arith) (c .position-first .ensures .there) None
+    hangs-last F xs (c .args .station) (c .position-first .result) (order-of order .once) (omega arith) (c .position-first .ensures .there) None
     (c .loop-k .inv ∙ first-none (F (c .args .station)) xs (c .loop-k .k) over)
     (last-none xs (c .position-first .result + 1) end)
