@@ -26,7 +26,9 @@ fn star_is_read() -> Result<(), Fail> {
     check_eq(place.size(), 1)?;
     check_eq(told(read_lists(&starts, &names, &mut place)), (0, 0))?;
     check_eq(place.size(), 4)?;
-    check(place.coupled(0, 3) && place.coupled(3, 0) && !place.coupled(1, 2) && !place.coupled(0, 4))?;
+    check(
+        place.coupled(0, 3) && place.coupled(3, 0) && !place.coupled(1, 2) && !place.coupled(0, 4),
+    )?;
     check_eq(place.next(0, 2), Some(2))?;
     check_eq(place.next(4, 0), None)?;
     // a refused reading leaves the star

@@ -49,7 +49,11 @@ fn goes_round(heap: Global, bytes: &[u8], n: usize) -> Result<bool, AllocError> 
     if answer != (0, bytes.len()) {
         return Ok(false);
     }
-    let front = again.iter().take(bytes.len()).copied().collect::<Vec<u8>>(heap)?;
+    let front = again
+        .iter()
+        .take(bytes.len())
+        .copied()
+        .collect::<Vec<u8>>(heap)?;
     Ok(front.as_slice() == bytes && again.last().copied() == Some(9))
 }
 
@@ -78,7 +82,10 @@ fn each_refusal_of_a_writing() -> Result<(), Fail> {
     check(read_lists(&[0, 3, 4, 5, 6], &[1, 2, 3, 0, 0, 0], &mut place).is_ok())?;
     let mut out = [7u8; 6];
     check_eq(told(write_sheet(&place, &[0, 1, 2], &mut out)), (13, 3))?;
-    check_eq(told(write_sheet(&place, &[0, 1, 2, 3, 0], &mut out)), (13, 5))?;
+    check_eq(
+        told(write_sheet(&place, &[0, 1, 2, 3, 0], &mut out)),
+        (13, 5),
+    )?;
     check_eq(told(write_sheet(&place, &[0, 1, 4, 3], &mut out)), (14, 2))?;
     check_eq(told(write_sheet(&place, &[0, 1, 2, 1], &mut out)), (14, 3))?;
     check_eq(told(write_sheet(&place, &[3, 1, 2, 0], &mut out)), (16, 7))?;

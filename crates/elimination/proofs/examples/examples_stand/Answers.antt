@@ -6,5 +6,5 @@ use Rattle.elimination.specs.Elimination.{pairs}
 use Rattle.elimination.proofs.examples.examples_stand.Needs as need
 
 pub returns : need.returns
-unfolding pairs countTo orderFault stationFault namedBefore firstFault
+unfolding pairs countTo stationFault namedBefore firstFault
 returns c = refl
