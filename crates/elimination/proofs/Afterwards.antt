@@ -13,7 +13,7 @@ use Rattle.std.specs.declared.option.Option.{Option}
 use Rattle.std.specs.declared.option.Option.the-variants.{Some, None}
 use Rattle.std.proofs.shelf.Tests.{eq-eqb, ne-eqb, cond-true, cond-false, cases-bool, both-ways}
 use Rattle.network.specs.Bits.{countTo}
-use Rattle.elimination.specs.Elimination.{filled, fill, firstOf, hangsFrom, howMany, orElse, pairs, total}
+use Rattle.elimination.specs.Elimination.{filled, fill, firstOf, hangsFrom, howMany, orElse, beyond, pairsBelow, total}
 use Rattle.elimination.specs.Graphs.{Graph, Sub}
 use Rattle.elimination.specs.Orders.{In, Distinct, later, lastOf, positionOf}
 use Rattle.elimination.proofs.Least.{filled-holds}
@@ -73,7 +73,7 @@ last-later xs k h = last-drop xs k h ∙ last-at xs (omega arith)
 pub last-none : (xs : List ℕ) (k : ℕ) → k ≡ length xs → lastOf (drop k xs) ≡ None
 last-none xs k e = ap lastOf (drop-all xs k e)
 
--- ---- fill pairs are filled pairs without the couplings
+-- ---- the pairs of a graph beyond another
 
 split : (f c : Bool) → (c ≡ true → f ≡ true) → _≡_ {A = ℕ} (cond (f && not c) 1 0 + cond c 1 0) (cond f 1 0)
 split true true h = refl
@@ -86,13 +86,10 @@ unfolding countTo
 count-split f c zero h = refl
 count-split f c (suc n) h = omega (arith, count-split f c n h, split (f n) (c n) (h n))
 
-pairs-split : (F C : Graph) (n : ℕ) → Sub C F → pairs n (λ a b. F a b && not (C a b)) + pairs n C ≡ pairs n F
-unfolding pairs
+pub pairs-split : (F C : Graph) (n : ℕ) → Sub C F → pairsBelow n (beyond F C) + pairsBelow n C ≡ pairsBelow n F
+unfolding pairsBelow
 pairs-split F C zero s = refl
 pairs-split F C (suc n) s = omega (arith, pairs-split F C n s, count-split (F n) (C n) n (s n))
-
-pub total-is : (n : ℕ) (C : Graph) (xs : List ℕ) → total n C xs + pairs n C ≡ pairs n (filled C xs)
-total-is n C xs = pairs-split (filled C xs) C n (filled-holds C xs)
 
 -- ---- the tree, by positions
 

@@ -10,7 +10,7 @@ use Rattle.std.proofs.shelf.Tests.{both-ways, cases-bool, cases-eq, cases-lt}
 use Rattle.std.proofs.shelf.Ways.{tells}
 use Rattle.network.specs.Bits.{countTo}
 use Rattle.network.proofs.Bits.{countTo-add, countTo-same, countTo-le}
-use Rattle.elimination.specs.Elimination.{pairs}
+use Rattle.elimination.specs.Elimination.{pairsBelow}
 use Rattle.elimination.specs.Graphs.{Graph, apart, around, union, without}
 use Rattle.elimination.specs.Words.{between, struck, rowTaken}
 use Rattle.elimination.proofs.Relations.{Symmetric, Irreflexive}
@@ -134,15 +134,15 @@ count-lower G a h =
     some : (k : ℕ) → k < a → between G a 0 a k ≡ G a k
     some k l = grind (arith, tells)
 
-pub pairs-none : (G : Graph) → pairs 0 G ≡ 0
-unfolding pairs
+pub pairs-none : (G : Graph) → pairsBelow 0 G ≡ 0
+unfolding pairsBelow
 pairs-none G = refl
 
-pub pairs-more : (n : ℕ) (G : Graph) → pairs (n + 1) G ≡ pairs n G + countTo (G n) n
-unfolding pairs
+pub pairs-more : (n : ℕ) (G : Graph) → pairsBelow (n + 1) G ≡ pairsBelow n G + countTo (G n) n
+unfolding pairsBelow
 pairs-more n G = let e : n + 1 ≡ suc n = omega arith in rw e
 
-pub pairs-le : (n : ℕ) (G : Graph) → n ≤ 512 → pairs n G ≤ 512 * n
-unfolding pairs
+pub pairs-le : (n : ℕ) (G : Graph) → n ≤ 512 → pairsBelow n G ≤ 512 * n
+unfolding pairsBelow
 pairs-le zero G h = omega arith
 pairs-le (suc n) G h = omega (arith, pairs-le n G (omega arith), countTo-le (G n) n)

@@ -19,9 +19,13 @@ abbrev pub filled : Graph → List ℕ → Graph
 filled G [] a b = G a b
 filled G (v ∷ vs) a b = G a b || filled (after G v) vs a b
 
+-- the pairs of F that are not pairs of C
+abbrev pub beyond : Graph → Graph → Graph
+beyond F C a b = F a b && not (C a b)
+
 -- the filled pairs that are no couplings
 abbrev pub fill : Graph → List ℕ → Graph
-fill C xs a b = filled C xs a b && not (C a b)
+fill C xs = beyond (filled C xs) C
 
 -- how many members pass the test
 abbrev pub howMany : (ℕ → Bool) → List ℕ → ℕ
@@ -55,13 +59,13 @@ abbrev pub parent : Graph → List ℕ → ℕ → Option ℕ
 parent C xs s = hangsFrom (filled C xs) xs s
 
 -- the number of pairs of stations below n
-unfoldable pub pairs : ℕ → Graph → ℕ
-pairs zero G = 0
-pairs (suc n) G = pairs n G + countTo (G n) n
+unfoldable pub pairsBelow : ℕ → Graph → ℕ
+pairsBelow zero G = 0
+pairsBelow (suc n) G = pairsBelow n G + countTo (G n) n
 
 -- the number of fill pairs
 abbrev pub total : ℕ → Graph → List ℕ → ℕ
-total n C xs = pairs n (fill C xs)
+total n C xs = pairsBelow n (fill C xs)
 
 -- from a over the members of the list in turn to b, each a neighbour of the next
 abbrev pub path : Graph → ℕ → List ℕ → ℕ → Bool

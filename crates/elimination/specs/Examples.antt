@@ -8,7 +8,7 @@ use Rattle.std.specs.declared.option.Option.the-variants.{Some, None}
 use Rattle.std.specs.Options.{isSome}
 use Rattle.network.specs.Orders.{orderFault}
 use Rattle.elimination.specs.AllOrders.{everyOrder, minimal, orders, someOrder, within}
-use Rattle.elimination.specs.Elimination.{count, fill, filled, pairs, parent}
+use Rattle.elimination.specs.Elimination.{count, fill, filled, pairsBelow, parent}
 use Rattle.elimination.specs.Graphs.{Graph}
 use Rattle.elimination.specs.Orders.{lastOf}
 
@@ -72,7 +72,7 @@ sameStation (Some a) (Some b) = eqb a b
 
 abbrev pub holds : ℕ → Graph → List ℕ → Claim → Bool
 holds n C xs (fills ps) = alike n (fill C xs) (graphOf ps)
-holds n C xs (places k) = eqb (n + pairs n (filled C xs)) k
+holds n C xs (places k) = eqb (n + pairsBelow n (filled C xs)) k
 holds n C xs some-without-fill = someOrder (λ ys. within n (fill C ys) none) (orders n)
 holds n C xs none-without-fill = not (someOrder (λ ys. within n (fill C ys) none) (orders n))
 holds n C xs (seats s zs) = everyOrder (λ ys. not (sameStation (lastOf ys) (Some s) && within n (fill C ys) (fill C xs)) || sameList ys zs) (orders n)

@@ -1,8 +1,9 @@
 //! The elimination tree of an order and its counts, from the filled pairs.
 //! `couplings` and `pairs` are those of one network and order: `pairs` are the filled pairs of that order.
 ghost use mathlib.Core.Path.{_≡_};
-ghost use Prim.Native.Nat.{_<_};
-ghost use Rattle.elimination.specs.Elimination.{count, filled, hangsFrom, laterNeighbours, parent, total};
+ghost use Prim.Native.Nat.{_<_, _≤_};
+ghost use Rattle.elimination.specs.Elimination.{beyond, count, filled, hangsFrom, laterNeighbours, pairsBelow, parent, total};
+ghost use Rattle.elimination.specs.Graphs.{Sub};
 ghost use Rattle.elimination.specs.View.{graph, listed};
 use crate::order::EliminationOrder;
 use crate::pair_set::PairSet;
@@ -64,11 +65,20 @@ pub fn count_of(couplings: &PairSet, pairs: &PairSet, order: &EliminationOrder, 
     later_neighbours(pairs, order, station)
 }
 
-/// How many fill pairs the order has: sixteen word steps for each station.
+/// How many pairs of stations below `n` are in `pairs` and not in `couplings`, which lie in them: sixteen word steps for each station.
+fn count_beyond(couplings: &PairSet, pairs: &PairSet, n: usize) -> u32
+    requires few { ⌜ n ≤ 512 ⌝ }
+    requires within { ⌜ Sub (graph (now couplings)) (graph (now pairs)) ⌝ }
+    ensures { λ r. ⌜ r ≡ pairsBelow n (beyond (graph (now (pairs .entry))) (graph (now (couplings .entry)))) ⌝ }
+{
+    pairs.count_pairs(n) - couplings.count_pairs(n)
+}
+
+/// How many fill pairs the order has.
 pub fn total_of(couplings: &PairSet, pairs: &PairSet, order: &EliminationOrder) -> u32
     requires { ⌜ graph (now pairs) ≡ filled (graph (now couplings)) (listed (now order)) ⌝ }
     ensures { λ r. ⌜ r ≡ total (now (order .entry) .size) (graph (now (couplings .entry))) (listed (now (order .entry))) ⌝ }
 {
     let size = order.size() as usize;
-    pairs.count_pairs(size) - couplings.count_pairs(size)
+    count_beyond(couplings, pairs, size)
 }

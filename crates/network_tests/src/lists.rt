@@ -18,22 +18,30 @@ fn answer<'a>(starts: &'a [u32], names: &'a [u16]) -> (u16, usize) {
     told(read_lists(starts, names, &mut place))
 }
 
-#[test]
-fn star_is_read() -> Result<(), Fail> {
-    let starts = [0, 3, 4, 5, 6];
-    let names = [1, 2, 3, 0, 0, 0];
+// Reads the star, asks it, and then reads a front of its starts, which is refused and leaves the star.
+fn ask_star<'a>(starts: &'a [u32], names: &'a [u16], front: &'a [u32]) -> Result<(), Fail> {
     let mut place = ListNetwork::lone();
-    check_eq(place.size(), 1)?;
-    check_eq(told(read_lists(&starts, &names, &mut place)), (0, 0))?;
+    check_eq(told(read_lists(starts, names, &mut place)), (0, 0))?;
     check_eq(place.size(), 4)?;
     check(
         place.coupled(0, 3) && place.coupled(3, 0) && !place.coupled(1, 2) && !place.coupled(0, 4),
     )?;
     check_eq(place.next(0, 2), Some(2))?;
     check_eq(place.next(4, 0), None)?;
-    // a refused reading leaves the star
-    check_eq(told(read_lists(&[0], &[], &mut place)), (9, 1))?;
+    check_eq(told(read_lists(front, names, &mut place)), (9, 1))?;
     check_eq(place.size(), 4)
+}
+
+#[test]
+fn place_starts_with_a_lone_station() -> Result<(), Fail> {
+    let place = ListNetwork::lone();
+    check_eq(place.size(), 1)?;
+    check_eq(place.next(0, 0), None)
+}
+
+#[test]
+fn star_is_read() -> Result<(), Fail> {
+    ask_star(&[0, 3, 4, 5, 6], &[1, 2, 3, 0, 0, 0], &[0])
 }
 
 #[test]

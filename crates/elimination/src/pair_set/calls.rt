@@ -4,7 +4,7 @@ ghost use mathlib.Core.Path.{_≡_};
 ghost use Prim.Native.Nat.{ℕ, _*_, _<_, _≤_};
 ghost use Rattle.network.specs.Bits.{countTo};
 ghost use Rattle.network.specs.Laws.{FirstIs};
-ghost use Rattle.elimination.specs.Elimination.{pairs};
+ghost use Rattle.elimination.specs.Elimination.{pairsBelow};
 ghost use Rattle.elimination.specs.Graphs.{apart, around, including, union, without};
 ghost use Rattle.elimination.specs.View.{graph};
 ghost use Rattle.elimination.specs.Words.{between, commonWithin, nextIn};
@@ -95,7 +95,7 @@ impl PairSet {
     /// How many pairs of stations below `n` there are: eight word steps for each station.
     pub fn count_pairs(&self, n: usize) -> u32
         requires { ⌜ n ≤ 512 ⌝ }
-        ensures value { λ r. ⌜ r ≡ pairs n (graph (now (self .entry))) ⌝ }
+        ensures value { λ r. ⌜ r ≡ pairsBelow n (graph (now (self .entry))) ⌝ }
         ensures small { λ r. ⌜ r ≤ 512 * n ⌝ }
     {
         let mut total = 0;

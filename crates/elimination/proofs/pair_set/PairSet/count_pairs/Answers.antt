@@ -2,7 +2,7 @@ use borrow.Author.Needs.{needs}
 use mathlib.Core.Path.{_≡_, sym, ap, _∙_}
 use Prim.Native.Nat.{ℕ, _+_, _*_, _≤_}
 use native.Mathlib.Omega.{arith}
-use Rattle.elimination.specs.Elimination.{pairs}
+use Rattle.elimination.specs.Elimination.{pairsBelow}
 use Rattle.elimination.specs.View.{graph}
 use Rattle.elimination.proofs.Walks.{count-lower, pairs-none, pairs-more, pairs-le}
 use Rattle.elimination.proofs.pair_set.PairSet.count_pairs.Needs as need
@@ -16,11 +16,11 @@ add-total c = omega (arith, pairs-le (c .loop-a .a) (graph (c .args .self .now))
 pub loop-a-again : need.loop-a-again
 loop-a-again c =
     ap (λ (m : ℕ). m + c .count-between-total .result) (c .loop-a .inv)
-    ∙ ap (λ (m : ℕ). pairs (c .loop-a .a) (graph (c .args .self .now)) + m) (c .count-between-total .ensures .value ∙ count-lower (graph (c .args .self .now)) (c .loop-a .a) (omega arith))
+    ∙ ap (λ (m : ℕ). pairsBelow (c .loop-a .a) (graph (c .args .self .now)) + m) (c .count-between-total .ensures .value ∙ count-lower (graph (c .args .self .now)) (c .loop-a .a) (omega arith))
     ∙ sym (pairs-more (c .loop-a .a) (graph (c .args .self .now)))
 
 pub returns : need.returns
 returns c =
     let e : c .loop-a .a ≡ c .args .n = omega arith in
-    let value : c .loop-a .total ≡ pairs (c .args .n) (graph (c .args .self .now)) = c .loop-a .inv ∙ ap (λ (m : ℕ). pairs m (graph (c .args .self .now))) e in
+    let value : c .loop-a .total ≡ pairsBelow (c .args .n) (graph (c .args .self .now)) = c .loop-a .inv ∙ ap (λ (m : ℕ). pairsBelow m (graph (c .args .self .now))) e in
     record { value = value; small = omega (arith, pairs-le (c .args .n) (graph (c .args .self .now)) (c .pre)) }
