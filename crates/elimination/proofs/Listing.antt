@@ -152,7 +152,6 @@ none-station xs n k h f =
     (and-from (ltb (getD xs k 0) n) (not (among xs k (getD xs k 0))) (lt-ltb (getD xs k 0) n h) (not-from-false (among xs k (getD xs k 0)) (unnamed (λ k. getD xs k 0) k (getD xs k 0) f)))
 
 pub fault-parts : (xs : List ℕ) (n : ℕ) → orderFault xs n ≡ None → (length xs ≡ n) × (n ≤ 512) × (firstFault (stationFault xs n) n ≡ None)
-unfolding orderFault
 fault-parts xs n e =
     let t = cond-none (eqb (length xs) n && leb n 512) (firstFault (stationFault xs n) n) 13 (length xs) e in
     let p = and-parts (eqb (length xs) n) (leb n 512) (t .0) in
@@ -168,7 +167,6 @@ fault-order xs n e =
     record { once = d; all = full n xs d only l; only = only }
 
 pub order-fault : (xs : List ℕ) (n : ℕ) → n ≤ 512 → Order n xs → orderFault xs n ≡ None
-unfolding orderFault
 order-fault xs n few o =
     let l = order-length n xs o in
     cond-true (eqb (length xs) n && leb n 512) (firstFault (stationFault xs n) n) (refuse 13 (length xs)) (and-from (eqb (length xs) n) (leb n 512) (eq-eqb (length xs) n l) (le-leb n 512 few))

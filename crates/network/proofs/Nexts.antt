@@ -10,22 +10,32 @@ use Rattle.std.specs.declared.option.Option.the-variants.{Some, None}
 use Rattle.network.specs.Net.{Net, firstFrom, nextCoupled}
 use Rattle.network.specs.Laws.{FirstIs, NextIs}
 
-pub next-here : (net : Net) (s t : ℕ) → t < net .size → net .coupled s t ≡ true → nextCoupled net s t ≡ Some t
-unfolding nextCoupled firstFrom
-next-here net s t h e =
-    let k : net .size - t ≡ suc (net .size - suc t) = omega arith in
-    rw k (cond-true _ _ _ e)
+-- what a search that passed over nothing found
 
-pub next-later : (net : Net) (s t : ℕ) → t < net .size → net .coupled s t ≡ false → nextCoupled net s t ≡ nextCoupled net s (t + 1)
-unfolding nextCoupled firstFrom
-next-later net s t h e =
-    let k : net .size - t ≡ suc (net .size - suc t) = omega arith in
-    let p : t + 1 ≡ suc t = omega arith in
-    rw (p, k) (cond-false _ _ _ e)
+first-is : (test : ℕ → Bool) (from t k : ℕ) → from ≤ t → t < from + k → test t ≡ true → ((i : ℕ) → from ≤ i → i < t → test i ≡ false) → firstFrom test from k ≡ Some t
+unfolding firstFrom
+first-is test from t zero l h e none = absurd (omega arith)
+first-is test from t (suc k) l h e none =
+    ⊎-elim
+    (λ same. cond-true _ _ _ (ap test same ∙ e) ∙ ap Some same)
+    (λ other. cond-false _ _ _ (none from (omega arith) (omega arith))
+    ∙ first-is test (suc from) t k (omega arith) (omega arith) e (λ i g s. none i (omega arith) s))
+    (cases-eq from t)
 
-pub next-none : (net : Net) (s t : ℕ) → net .size ≤ t → nextCoupled net s t ≡ None
-unfolding nextCoupled firstFrom
-next-none net s t h = let k : net .size - t ≡ 0 = omega arith in rw k refl
+first-none : (test : ℕ → Bool) (from k : ℕ) → ((i : ℕ) → from ≤ i → i < from + k → test i ≡ false) → firstFrom test from k ≡ None
+unfolding firstFrom
+first-none test from zero none = refl
+first-none test from (suc k) none =
+    cond-false _ _ _ (none from (omega arith) (omega arith)) ∙ first-none test (suc from) k (λ i g s. none i (omega arith) (omega arith))
+
+pub next-found : (net : Net) (s from t : ℕ) → from ≤ t → t < net .size → net .coupled s t ≡ true → ((k : ℕ) → from ≤ k → k < t → net .coupled s k ≡ false)
+    → nextCoupled net s from ≡ Some t
+unfolding nextCoupled
+next-found net s from t l h e none = first-is (net .coupled s) from t (net .size - from) l (omega arith) e none
+
+pub next-none : (net : Net) (s from t : ℕ) → net .size ≤ t → ((k : ℕ) → from ≤ k → k < t → net .coupled s k ≡ false) → nextCoupled net s from ≡ None
+unfolding nextCoupled
+next-none net s from t h none = first-none (net .coupled s) from (net .size - from) (λ i g l. none i g (omega arith))
 
 first-smallest : (test : ℕ → Bool) (t k : ℕ) → FirstIs test t (t + k) (firstFrom test t k)
 unfolding firstFrom

@@ -1,5 +1,16 @@
 pub mod Refusals
 pub mod Net
 pub mod Bits
+pub mod Fields
 pub mod Orders
+pub mod Sheets
+pub mod Decode
+pub mod Encode
+pub mod Parts
+pub mod SheetMeaning
+pub mod SheetView
+pub mod Writing
 pub mod Laws
+pub mod SheetLaws
+pub mod Lists
+pub mod ListLaws

@@ -22,5 +22,5 @@ unfoldable pub stationFault : List ℕ → ℕ → ℕ → Option Fault
 stationFault xs n k = cond (ltb (getD xs k 0) n && not (among xs k (getD xs k 0))) None (refuse 14 k)
 
 -- first the length, then the stations; no network has more than 512 stations, so no list is an order of one
-unfoldable pub orderFault : List ℕ → ℕ → Option Fault
+abbrev pub orderFault : List ℕ → ℕ → Option Fault
 orderFault xs n = cond (eqb (length xs) n && leb n 512) (firstFault (stationFault xs n) n) (refuse 13 (length xs))

@@ -1,4 +1,5 @@
 -- What a refusal tells: its number and its place. Every contract that refuses speaks of these.
+use mathlib.Core.Path.{_≡_}
 use Prim.Native.Nat.{ℕ, zero, suc}
 use Rattle.std.specs.declared.option.Option.{Option}
 use Rattle.std.specs.declared.option.Option.the-variants.{Some, None}
@@ -37,6 +38,10 @@ told (TableTooShort p) = at 17 p
 told (NoPlace p) = at 18 p
 told (UnusablePivot p) = at 19 p
 told SheetTooLong = at 20 0
+
+-- no two refusals tell the same, so number and place say which one it is
+abbrev pub Told-apart : Type 0
+Told-apart = (e f : Refusal) → told e ≡ told f → e ≡ f
 
 -- what a call answered, by what its refusal tells
 abbrev pub outcome : {X : Type 0} → Result X Refusal → Result X Fault

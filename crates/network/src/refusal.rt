@@ -1,7 +1,7 @@
 //! Why a call of this system was refused, and where: one variant for each refusal,
 //! carrying its place wherever the place varies.
 ghost use mathlib.Core.Path.{_≡_};
-ghost use Rattle.network.specs.Refusals.{told};
+ghost use Rattle.network.specs.Refusals.{told, Told-apart};
 
 /// A refusal. Its number and its place are those of docs/REFUSALS.md.
 #[derive(Clone, Copy, PartialEq, Eq, Debug, Drop)]
@@ -104,4 +104,11 @@ impl Refusal {
             | Refusal::UnusablePivot(number) => number as usize,
         }
     }
+}
+
+/// Number and place tell refusals apart.
+pub fn refusals_are_told_apart() -> u8
+    ensures { λ _. ⌜ Told-apart ⌝ }
+{
+    0
 }

@@ -5,7 +5,7 @@ use lib.ListN.{length, getD}
 use Rattle.std.specs.declared.option.Option.the-variants.{None}
 use Rattle.network.specs.Refusals.{firstFault}
 use Rattle.network.specs.Orders.{stationFault, among}
-use Rattle.network.proofs.orders.check_order.Given as given
+use Rattle.network.proofs.orders.check_stations.Given as given
 
 abbrev pub Inv-loop-k : given.InvT-loop-k
 Inv-loop-k l =
