@@ -1,15 +1,26 @@
 //! Dropping spare fill pairs until none is left.
 //! A pair that goes can make another spare, but only at one of its own two stations: only those rows are looked at again.
 //! A round looks at each pair of the marked rows, at most n/8 word steps for each and far less where a test fails early.
-ghost use mathlib.Core.Bool.{false, true};
+ghost use mathlib.Core.Bool.{_||_, false, not, true};
 ghost use mathlib.Core.Path.{_≡_};
 ghost use Prim.Native.Nat.{ℕ, _<_, _≤_};
 ghost use lib.ListN.{set};
 ghost use Rattle.elimination.specs.Dropping.{Looked, LookedTo, Lost, Ready, Tight, marked};
 ghost use Rattle.elimination.specs.Graphs.{Sub, spare, without};
 ghost use Rattle.elimination.specs.View.{graph};
+ghost use Rattle.elimination.specs.Words.{commonWithin};
 use crate::marks::all_marked;
 use crate::pair_set::PairSet;
+
+/// Whether `a` is no neighbour of `v`, or every common neighbour of `u` and `v` but itself is its neighbour.
+fn meets(pairs: &PairSet, u: usize, v: usize, a: usize) -> bool
+    requires one { ⌜ u < 512 ⌝ }
+    requires two { ⌜ v < 512 ⌝ }
+    requires third { ⌜ a < 512 ⌝ }
+    ensures { λ r. ⌜ r ≡ (not (graph (now (pairs .entry)) v a) || commonWithin 512 (graph (now (pairs .entry))) u v a) ⌝ }
+{
+    !pairs.contains(v, a) || pairs.common_within(u, v, a)
+}
 
 /// Whether the common neighbours of `u` and `v` are pairwise neighbours: at most eight word steps for each neighbour of `u`.
 pub fn is_spare(pairs: &PairSet, u: usize, v: usize) -> bool
@@ -19,7 +30,7 @@ pub fn is_spare(pairs: &PairSet, u: usize, v: usize) -> bool
 {
     let mut from = 0;
     while let Some(a) = pairs.next(u, from) {
-        if pairs.contains(v, a) && !pairs.common_within(u, v, a) {
+        if !meets(pairs, u, v, a) {
             return false;
         }
         from = a + 1;

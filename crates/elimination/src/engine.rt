@@ -3,6 +3,7 @@
 ghost use mathlib.Core.Path.{_≡_};
 ghost use Prim.Native.Nat.{_<_, _≤_};
 ghost use Rattle.std.specs.declared.option.Option.the-variants.{Some};
+ghost use Rattle.elimination.specs.Dropping.{Ready, Tight};
 ghost use Rattle.elimination.specs.Elimination.{Minimal, fill, filled};
 ghost use Rattle.elimination.specs.Graphs.{Simple, Sub};
 ghost use Rattle.elimination.specs.Orders.{lastOf};
@@ -12,8 +13,21 @@ use crate::order::EliminationOrder;
 use crate::pair_set::PairSet;
 use crate::perfect::perfect_order;
 
+/// The pairs without spare fill pairs.
+fn without_spare(couplings: &PairSet, pairs: &PairSet, n: usize) -> PairSet
+    requires few { ⌜ n ≤ 512 ⌝ }
+    requires ready { ⌜ Ready n (graph (now couplings)) (graph (now pairs)) ⌝ }
+    ensures ready { λ r. ⌜ Ready n (graph (now (couplings .entry))) (graph r) ⌝ }
+    ensures within { λ r. ⌜ Sub (graph r) (graph (now (pairs .entry))) ⌝ }
+    ensures tight { λ r. ⌜ Tight n (graph (now (couplings .entry))) (graph r) ⌝ }
+{
+    let mut work = pairs.copy();
+    drop_spare(&mut work, couplings, n);
+    work
+}
+
 /// A minimal order within the fill of an order: spare fill pairs are dropped until none is left, and a perfect order of the rest is taken.
-/// It ends in the same station.
+/// Any station could be last in it; it keeps the one that is.
 pub fn tightened(couplings: &PairSet, pairs: &PairSet, order: &EliminationOrder) -> EliminationOrder
     requires some { ⌜ 1 ≤ now order .size ⌝ }
     requires simple { ⌜ Simple (now order .size) (graph (now couplings)) ⌝ }
@@ -24,9 +38,8 @@ pub fn tightened(couplings: &PairSet, pairs: &PairSet, order: &EliminationOrder)
 {
     let size = order.size();
     let last = order.station(size - 1);
-    let mut work = pairs.copy();
-    drop_spare(&mut work, couplings, size as usize);
-    perfect_order(&work, size, last)
+    let tight = without_spare(couplings, pairs, size as usize);
+    perfect_order(&tight, size, last)
 }
 
 /// An order that ends in a given station and fills nothing that the given order does not: a perfect order of its filled pairs.

@@ -31,12 +31,12 @@ fn leave(work: &mut PairSet, v: usize)
     work.isolate(v);
 }
 
-/// The filled pairs of an order of stations with these couplings.
-pub fn filled_pairs(couplings: &PairSet, order: &EliminationOrder) -> PairSet
-    requires { ⌜ Simple (now order .size) (graph (now couplings)) ⌝ }
-    ensures { λ r. ⌜ graph r ≡ filled (graph (now (couplings .entry))) (listed (now (order .entry))) ⌝ }
+/// What all stations take along as they leave in turn. It uses the pairs up.
+fn gather(pairs: PairSet, order: &EliminationOrder) -> PairSet
+    requires { ⌜ Simple (now order .size) (graph pairs) ⌝ }
+    ensures { λ r. ⌜ graph r ≡ filled (graph pairs) (listed (now (order .entry))) ⌝ }
 {
-    let mut work = couplings.copy();
+    let mut work = pairs;
     let mut gathered = PairSet::empty();
     for k in 0..order.size() {
         let v = order.station(k) as usize;
@@ -44,4 +44,12 @@ pub fn filled_pairs(couplings: &PairSet, order: &EliminationOrder) -> PairSet
         leave(&mut work, v);
     }
     gathered
+}
+
+/// The filled pairs of an order of stations with these couplings.
+pub fn filled_pairs(couplings: &PairSet, order: &EliminationOrder) -> PairSet
+    requires { ⌜ Simple (now order .size) (graph (now couplings)) ⌝ }
+    ensures { λ r. ⌜ graph r ≡ filled (graph (now (couplings .entry))) (listed (now (order .entry))) ⌝ }
+{
+    gather(couplings.copy(), order)
 }

@@ -1,9 +1,10 @@
 //! The words of a set of pairs: 512 rows of eight 64-bit words, row `a` with a bit for each station that is paired with `a`.
 //! All work goes word by word.
-ghost use mathlib.Core.Bool.{false, _&&_, _||_};
+ghost use mathlib.Core.Bool.{false, _||_};
 ghost use mathlib.Core.Path.{_≡_};
 ghost use Prim.Native.Nat.{ℕ, _+_, _*_, _<_, _≤_};
 ghost use lib.Dec.{eqb, ltb};
+ghost use lib.ListN.{replicate};
 ghost use Rattle.network.specs.Bits.{bitAt, countTo};
 ghost use Rattle.network.specs.Laws.{FirstIs};
 ghost use Rattle.elimination.specs.Graphs.{around, union};
@@ -11,7 +12,7 @@ ghost use Rattle.elimination.specs.Words.{between, commonWithin, has, nextIn, 
 
 /// Words without any pair.
 pub(crate) fn no_pairs() -> [u64; 4096]
-    ensures { λ r. ⌜ ((a b : ℕ) → rows r a b ≡ false) ⌝ }
+    ensures { λ r. ⌜ r ≡ replicate 4096 0 ⌝ }
 {
     [0; 4096]
 }

@@ -3,6 +3,7 @@ ghost use mathlib.Core.Path.{_≡_};
 ghost use Prim.Native.Nat.{ℕ, _<_, _≤_};
 ghost use lib.ListN.{getD, length, take};
 ghost use Rattle.std.specs.Vec.{made};
+ghost use Rattle.std.specs.declared.option.Option.the-variants.{None};
 ghost use Rattle.network.specs.Orders.{orderFault};
 ghost use Rattle.network.specs.Refusals.{unless};
 ghost use Rattle.elimination.specs.Kept.{Found, Named, Placed};
@@ -31,7 +32,8 @@ fn places(list: &[u16]) -> [u16; 512]
 /// The stations below `n`, rising.
 fn rising_places(n: u16) -> [u16; 512]
     requires { ⌜ n ≤ 512 ⌝ }
-    ensures { λ r. ⌜ take n r ≡ upTo n ⌝ }
+    ensures list { λ r. ⌜ take n r ≡ upTo n ⌝ }
+    ensures named { λ r. ⌜ Named n r ⌝ }
 {
     let mut stations = no_stations();
     for k in 0..n {
@@ -69,6 +71,39 @@ pub(crate) fn settled(size: u16, stations: [u16; 512]) -> EliminationOrder
     }
 }
 
+/// The order of a list that the check of orders passed.
+fn ordered(size: u16, list: &[u16]) -> EliminationOrder
+    requires { ⌜ orderFault (now list) size ≡ None ⌝ }
+    ensures size { λ r. ⌜ r .size ≡ size ⌝ }
+    ensures list { λ r. ⌜ listed r ≡ now (list .entry) ⌝ }
+{
+    settled(size, places(list))
+}
+
+/// The station at a position.
+fn station_at(size: u16, stations: &[u16; 512], position: u16) -> u16
+    requires few { ⌜ size ≤ 512 ⌝ }
+    requires known { ⌜ position < size ⌝ }
+    requires named { ⌜ Named size (now stations) ⌝ }
+    ensures value { λ r. ⌜ r ≡ getD (take size (now (stations .entry))) position 0 ⌝ }
+    ensures small { λ r. ⌜ r < size ⌝ }
+{
+    stations[position as usize]
+}
+
+/// The position of a station.
+fn position_in(size: u16, stations: &[u16; 512], positions: &[u16; 512], station: u16) -> u16
+    requires few { ⌜ size ≤ 512 ⌝ }
+    requires known { ⌜ station < size ⌝ }
+    requires named { ⌜ Named size (now stations) ⌝ }
+    requires placed { ⌜ Placed size (now stations) (now positions) ⌝ }
+    ensures value { λ r. ⌜ r ≡ positionOf (take size (now (stations .entry))) station ⌝ }
+    ensures there { λ r. ⌜ getD (take size (now (stations .entry))) r 0 ≡ station ⌝ }
+    ensures small { λ r. ⌜ r < size ⌝ }
+{
+    positions[station as usize]
+}
+
 impl EliminationOrder {
     /// The order that a list gives, or why it gives none: its length, or the index of a station that is unknown or repeated.
     /// It walks the list three times.
@@ -77,7 +112,7 @@ impl EliminationOrder {
         ensures size { λ r. ⌜ made r (λ order. order .size ≡ size) ⌝ }
     {
         check_order(size, list)?;
-        Ok(settled(size, places(list)))
+        Ok(ordered(size, list))
     }
 
     /// The order 0, 1, .. of `size` stations.
@@ -102,7 +137,7 @@ impl EliminationOrder {
         ensures value { λ r. ⌜ r ≡ getD (listed (now (self .entry))) position 0 ⌝ }
         ensures small { λ r. ⌜ r < now (self .entry) .size ⌝ }
     {
-        self.stations[position as usize]
+        station_at(self.size, &self.stations, position)
     }
 
     /// The position of a station.
@@ -112,6 +147,6 @@ impl EliminationOrder {
         ensures there { λ r. ⌜ getD (listed (now (self .entry))) r 0 ≡ station ⌝ }
         ensures small { λ r. ⌜ r < now (self .entry) .size ⌝ }
     {
-        self.positions[station as usize]
+        position_in(self.size, &self.stations, &self.positions, station)
     }
 }

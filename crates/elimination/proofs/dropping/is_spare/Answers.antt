@@ -1,17 +1,17 @@
 use mathlib.Core.Path.{_≡_, refl, sym, ap, subst, _∙_}
-use mathlib.Core.Bool.{Bool, true, false}
+use mathlib.Core.Bool.{Bool, true, false, not, _||_}
 use mathlib.Core.Logic.{⊎-elim}
 use Prim.Native.Nat.{ℕ, _<_, _≤_, _+_}
 use native.Mathlib.Omega.{arith}
-use Rattle.std.proofs.shelf.Tests.{both-ways, cases-bool, cases-eq, cases-lt}
+use Rattle.std.proofs.shelf.Tests.{both-ways, cases-bool, cases-eq, cases-lt, not-false, not-true, or-cases, or-parts}
 use Rattle.elimination.specs.Graphs.{Graph, spare}
 use Rattle.elimination.specs.View.{graph}
+use Rattle.elimination.specs.Words.{commonWithin}
 use Rattle.elimination.proofs.Relations.{Meets, SpareIn, spare-from, spare-to}
 use Rattle.elimination.proofs.Rows.{rows-below}
 use Rattle.elimination.proofs.RowTests.{common-meets}
 use Rattle.elimination.proofs.Walks.{Gap}
 use Rattle.elimination.proofs.dropping.is_spare.Needs as need
-use Rattle.elimination.proofs.dropping.is_spare.Needs.{else-contains·by·then-contains·else-not-common-within, else-contains·by·else-contains}
 
 -- the members up to a were looked at
 looked-more : (G : Graph) (u v from a : ℕ) → Gap G u from a → (G v a ≡ true → Meets G u v a)
@@ -23,29 +23,33 @@ looked-more G u v from a gap here f x lt ux vx =
     (λ (ne : x ≡ a → ⊥). ⊎-elim (λ (l : x < from). f x l ux vx) (λ (g : from ≤ x). absurd (both-ways (G u x) (gap x g (omega arith)) ux)) (cases-lt x from))
     (cases-eq x a)
 
-pub returns-then-not-common-within : need.returns-then-not-common-within
-returns-then-not-common-within c =
+pub returns-then-not-meets : need.returns-then-not-meets
+returns-then-not-meets c =
     let G : Graph = graph (c .args .pairs .now) in
     let u = c .args .u in
     let v = c .args .v in
     let a = c .in-Some .a in
     let ws = c .args .pairs .now .words in
+    let p = or-parts (not (G v a)) (commonWithin 512 G u v a) (sym (c .meets .ensures) ∙ c .if-not-meets .taken) in
     ⊎-elim
-    (λ (t : spare 512 G u v ≡ true). absurd (both-ways (c .common-within .result) (c .if-not-common-within .taken)
-    (common-meets ws u v a (c .common-within .result) (c .common-within .ensures) .1
-    (spare-from 512 G u v (rows-below ws) t a (c .in-Some .ensures tt .first .2) (sym (c .contains .ensures) ∙ c .if-contains .taken)))))
+    (λ (t : spare 512 G u v ≡ true). absurd (both-ways (commonWithin 512 G u v a) (p .1)
+    (common-meets ws u v a (commonWithin 512 G u v a) refl .1
+    (spare-from 512 G u v (rows-below ws) t a (c .in-Some .ensures tt .first .2) (not-false (G v a) (p .0))))))
     (λ (t : spare 512 G u v ≡ false). sym t)
     (cases-bool (spare 512 G u v))
 
 pub loop-a-again : need.loop-a-again
 loop-a-again c =
     let G : Graph = graph (c .args .pairs .now) in
+    let u = c .args .u in
+    let v = c .args .v in
+    let a = c .in-Some .a in
     let first = c .in-Some .ensures tt .first in (
-      looked-more G (c .args .u) (c .args .v) (c .loop-a .from) (c .in-Some .a) (first .3)
-          (λ h. elim (c .else-contains .came) [
-            | else-contains·by·then-contains·else-not-common-within w ↦ common-meets (c .args .pairs .now .words) (c .args .u) (c .args .v) (c .in-Some .a) (w .common-within .result) (w .common-within .ensures) .0 (w .if-not-common-within .left)
-            | else-contains·by·else-contains w ↦ absurd (both-ways (c .contains .result) (w .if-contains .left) (c .contains .ensures ∙ h))
-          ])
+      looked-more G u v (c .loop-a .from) a (first .3)
+          (λ h. ⊎-elim
+          (λ (t : not (G v a) ≡ true). absurd (both-ways (G v a) (not-true (G v a) t) h))
+          (λ (t : commonWithin 512 G u v a ≡ true). common-meets (c .args .pairs .now .words) u v a (commonWithin 512 G u v a) refl .0 t)
+          (or-cases (not (G v a)) (commonWithin 512 G u v a) (sym (c .meets .ensures) ∙ c .if-not-meets .left)))
           (c .loop-a .inv .0),
       omega (arith, first .1),
     )

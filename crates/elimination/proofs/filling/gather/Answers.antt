@@ -1,5 +1,5 @@
 use borrow.Author.Needs.{needs}
-use mathlib.Core.Path.{_≡_, sym, ap, subst, _∙_}
+use mathlib.Core.Path.{_≡_, refl, sym}
 use Prim.Native.Nat.{ℕ, _<_, _≤_}
 use native.Mathlib.Omega.{arith}
 use lib.ListN.{length}
@@ -8,11 +8,11 @@ use Rattle.elimination.specs.View.{graph, listed}
 use Rattle.elimination.specs.declared.order.EliminationOrder.{EliminationOrder}
 use Rattle.elimination.proofs.Listing.{order-of, listed-length}
 use Rattle.elimination.proofs.Leaving.{leaving-start, leaving-step, leaving-end}
-use Rattle.elimination.proofs.filling.filled_pairs.Needs as need
+use Rattle.elimination.proofs.filling.gather.Needs as need
 
 pub loop-k-holds : need.loop-k-holds
 loop-k-holds c =
-    leaving-start (c .args .order .now .size) (graph (c .args .couplings .now)) (listed (c .args .order .now)) _ _ (order-of (c .args .order .now)) (c .pre) (c .copy-work .ensures) (c .empty-gathered .ensures)
+    leaving-start (c .args .order .now .size) (graph (c .args .pairs)) (listed (c .args .order .now)) _ _ (order-of (c .args .order .now)) (c .pre) refl (c .empty-gathered .ensures)
 
 pub leave-requires : need.leave-requires
 leave-requires c κs = record { one = omega (arith, c .station-v .ensures .small, c .args .order .now .few); irreflexive = c .loop-k .inv .simple .irreflexive }
@@ -20,10 +20,10 @@ leave-requires c κs = record { one = omega (arith, c .station-v .ensures .small
 pub loop-k-again : need.loop-k-again
 loop-k-again c =
     let l = listed-length (c .args .order .now) in
-    leaving-step (c .args .order .now .size) (graph (c .args .couplings .now)) (listed (c .args .order .now)) (c .loop-k .k) _ _ _ _ (c .station-v .result) (omega arith)
+    leaving-step (c .args .order .now .size) (graph (c .args .pairs)) (listed (c .args .order .now)) (c .loop-k .k) _ _ _ _ (c .station-v .result) (omega arith)
     (sym (c .station-v .ensures .value)) (c .leave .ensures) (c .keep-pairs .ensures) (c .loop-k .inv)
 
 pub returns : need.returns
 returns c =
     let l = listed-length (c .args .order .now) in
-    leaving-end (c .args .order .now .size) (graph (c .args .couplings .now)) (listed (c .args .order .now)) (c .loop-k .k) _ _ (omega arith) (c .loop-k .inv)
+    leaving-end (c .args .order .now .size) (graph (c .args .pairs)) (listed (c .args .order .now)) (c .loop-k .k) _ _ (omega arith) (c .loop-k .inv)
