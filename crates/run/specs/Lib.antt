@@ -1,1 +1,6 @@
 pub mod Kinds
+pub mod Square
+pub mod Tables
+pub mod Parts
+pub mod Outcomes
+pub mod Histories

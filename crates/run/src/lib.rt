@@ -1,9 +1,11 @@
 //! The run over a reserve: kinds of entry, the states of a run, and what holds of every history of one.
 //! Entries and marks lie in two tables that the caller lends to each call.
 mod kinds;
+mod states;
 
 pub use kinds::Entry;
 pub use kinds::Level;
 pub use kinds::LevelEntry;
 pub use kinds::Minutes;
 pub use kinds::MinutesEntry;
+pub use states::Step;
