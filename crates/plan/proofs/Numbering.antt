@@ -17,10 +17,10 @@ use Rattle.plan.specs.Layout.{inColumn, rank, start, places, cell, later, pair
 rank-mono : (F : Graph) (j a b : ℕ) → a ≤ b → rank F j a ≤ rank F j b
 unfolding rank
 rank-mono F j a zero h = let e : a ≡ 0 = omega arith in rw e (omega arith)
-rank-mono F j a (suc b) h = elim (cases-eq a (suc b))
-    [ inl e ↦ rw e (omega arith)
-    | inr d ↦ (let h′ : a ≤ b = omega (arith, d) in omega (arith, rank-mono F j a b h′))
-    ]
+rank-mono F j a (suc b) h = elim (cases-eq a (suc b)) [
+  | inl e ↦ rw e (omega arith)
+  | inr d ↦ (let h′ : a ≤ b = omega (arith, d) in omega (arith, rank-mono F j a b h′))
+]
 
 rank-suc : (F : Graph) (j i : ℕ) → inColumn F j i ≡ true → rank F j (suc i) ≡ rank F j i + 1
 unfolding rank
@@ -48,15 +48,15 @@ cell-out F n i j h = simp (and-left (ltb i n) (inColumn F j i) (le-ltb i n h))
 pub rank-lt : (F : Graph) (j i n : ℕ) → inColumn F j i ≡ true → i < n → rank F j i < rank F j n
 rank-lt F j i n h lt = omega (arith, rank-suc F j i h, rank-mono F j (suc i) n lt)
 
-start-mono : (F : Graph) (n a b : ℕ) → a ≤ b → start F n a ≤ start F n b
+pub start-mono : (F : Graph) (n a b : ℕ) → a ≤ b → start F n a ≤ start F n b
 unfolding start
 start-mono F n a zero h = let e : a ≡ 0 = omega arith in rw e (omega arith)
-start-mono F n a (suc b) h = elim (cases-eq a (suc b))
-    [ inl e ↦ rw e (omega arith)
-    | inr d ↦ (let h′ : a ≤ b = omega (arith, d) in omega (arith, start-mono F n a b h′))
-    ]
+start-mono F n a (suc b) h = elim (cases-eq a (suc b)) [
+  | inl e ↦ rw e (omega arith)
+  | inr d ↦ (let h′ : a ≤ b = omega (arith, d) in omega (arith, start-mono F n a b h′))
+]
 
-start-suc : (F : Graph) (n j : ℕ) → start F n (suc j) ≡ start F n j + rank F j n
+pub start-suc : (F : Graph) (n j : ℕ) → start F n (suc j) ≡ start F n j + rank F j n
 unfolding start
 start-suc F n j = refl
 
@@ -72,12 +72,12 @@ pub record Spot (F : Graph) (n i j p : ℕ) : Type 0 where
 
 pub cell-some : (F : Graph) (n i j p : ℕ) → cell F n i j ≡ Some p → Spot F n i j p
 unfolding cell
-cell-some F n i j p h = elim (cases-bool (ltb i n && inColumn F j i))
-    [ inl t ↦ (let q = and-parts (ltb i n) (inColumn F j i) t in
-        let g : Some (start F n j + rank F j i) ≡ Some p = simp t at h in
-        record { within = ltb-true i n (q .0); here = q .1; number = cc })
-    | inr f ↦ (let g : None ≡ Some p = simp f at h in let z : _≡_ {A = ℕ} 0 1 = cc in absurd (omega arith))
-    ]
+cell-some F n i j p h = elim (cases-bool (ltb i n && inColumn F j i)) [
+  | inl t ↦ (let q = and-parts (ltb i n) (inColumn F j i) t in
+      let g : Some (start F n j + rank F j i) ≡ Some p = simp t at h in
+      record { within = ltb-true i n (q .0); here = q .1; number = cc })
+  | inr f ↦ (let g : None ≡ Some p = simp f at h in let z : _≡_ {A = ℕ} 0 1 = cc in absurd (omega arith))
+]
 
 pub some-cell : (F : Graph) (n i j : ℕ) → i < n → inColumn F j i ≡ true → cell F n i j ≡ Some (start F n j + rank F j i)
 unfolding cell
@@ -104,41 +104,41 @@ pub cell-once : (F : Graph) (n i j a b p : ℕ) → cell F n i j ≡ Some p → 
 cell-once F n i j a b p h g = (row (cell-some F n i j p h) (cell-some F n a b p g), column (cell-some F n i j p h) (cell-some F n a b p g))
   where
     column : Spot F n i j p → Spot F n a b p → j ≡ b
-    column s t = elim (cases-order j b)
-        [ inl e ↦ e
-        | inr (inl lt) ↦ absurd (same-column F n i j a b p s t lt)
-        | inr (inr lt) ↦ absurd (same-column F n a b i j p t s lt)
-        ]
+    column s t = elim (cases-order j b) [
+      | inl e ↦ e
+      | inr (inl lt) ↦ absurd (same-column F n i j a b p s t lt)
+      | inr (inr lt) ↦ absurd (same-column F n a b i j p t s lt)
+    ]
 
     row : Spot F n i j p → Spot F n a b p → i ≡ a
     row s t =
         let e : j ≡ b = column s t in
         let t′ : Spot F n a j p = rw e t in
-        elim (cases-order i a)
-        [ inl q ↦ q
-        | inr (inl lt) ↦ absurd (same-row F n i j a p s t′ lt)
-        | inr (inr lt) ↦ absurd (same-row F n a j i p t′ s lt)
+        elim (cases-order i a) [
+          | inl q ↦ q
+          | inr (inl lt) ↦ absurd (same-row F n i j a p s t′ lt)
+          | inr (inr lt) ↦ absurd (same-row F n a j i p t′ s lt)
         ]
 
 -- each number below a rank is the rank of a member
 rank-onto : (F : Graph) (j m q : ℕ) → q < rank F j m → (i : ℕ) × (i < m) × (inColumn F j i ≡ true) × (rank F j i ≡ q)
 unfolding rank
 rank-onto F j zero q h = absurd (omega arith)
-rank-onto F j (suc m) q h = elim (cases-lt q (rank F j m))
-    [ inl lt ↦ (let r = rank-onto F j m q lt in (r .0, omega (arith, r .1), r .2, r .3))
-    | inr ge ↦ elim (cases-bool (inColumn F j m))
-        [ inl t ↦ (let h′ : q < rank F j m + 1 = simp t at h in (m, omega arith, t, omega arith))
-        | inr f ↦ (let h′ : q < rank F j m + 0 = simp f at h in absurd (omega arith))
-        ]
-    ]
+rank-onto F j (suc m) q h = elim (cases-lt q (rank F j m)) [
+  | inl lt ↦ (let r = rank-onto F j m q lt in (r .0, omega (arith, r .1), r .2, r .3))
+  | inr ge ↦ elim (cases-bool (inColumn F j m)) [
+    | inl t ↦ (let h′ : q < rank F j m + 1 = simp t at h in (m, omega arith, t, omega arith))
+    | inr f ↦ (let h′ : q < rank F j m + 0 = simp f at h in absurd (omega arith))
+  ]
+]
 
 start-onto : (F : Graph) (n m p : ℕ) → p < start F n m → (j : ℕ) × (j < m) × (start F n j ≤ p) × (p < start F n j + rank F j n)
 unfolding start
 start-onto F n zero p h = absurd (omega arith)
-start-onto F n (suc m) p h = elim (cases-lt p (start F n m))
-    [ inl lt ↦ (let r = start-onto F n m p lt in (r .0, omega (arith, r .1), r .2, r .3))
-    | inr ge ↦ (m, omega arith, ge, h)
-    ]
+start-onto F n (suc m) p h = elim (cases-lt p (start F n m)) [
+  | inl lt ↦ (let r = start-onto F n m p lt in (r .0, omega (arith, r .1), r .2, r .3))
+  | inr ge ↦ (m, omega arith, ge, h)
+]
 
 pub cell-all : (F : Graph) (n p : ℕ) → p < places F n → (i j : ℕ) × (cell F n i j ≡ Some p)
 unfolding places
@@ -151,7 +151,7 @@ cell-all F n p h =
     (r .0, j, some-cell F n (r .0) j (r .1) (r .2) ∙ ap (λ (x : ℕ). Some x) e)
 
 -- a column has its own position, and its later ones
-rank-later : (F : Graph) (j i : ℕ) → rank F j i ≡ cond (ltb j i) 1 0 + later F j i
+pub rank-later : (F : Graph) (j i : ℕ) → rank F j i ≡ cond (ltb j i) 1 0 + later F j i
 unfolding rank later inColumn
 rank-later F j zero = grind (arith, tells)
 rank-later F j (suc i) = let h = rank-later F j i in grind (arith, tells)
@@ -165,9 +165,9 @@ start-pairs F n (suc m) h =
 
 pub numbered : (F : Graph) (n : ℕ) → Numbered F n
 unfolding places
-numbered F n = record
-    { below = cell-below F n
-    ; once = cell-once F n
-    ; all = cell-all F n
-    ; count = start-pairs F n n (omega arith)
-    }
+numbered F n = record {
+  below = cell-below F n;
+  once = cell-once F n;
+  all = cell-all F n;
+  count = start-pairs F n n (omega arith);
+}
