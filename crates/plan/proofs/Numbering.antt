@@ -48,7 +48,7 @@ cell-out F n i j h = simp (and-left (ltb i n) (inColumn F j i) (le-ltb i n h))
 pub rank-lt : (F : Graph) (j i n : ℕ) → inColumn F j i ≡ true → i < n → rank F j i < rank F j n
 rank-lt F j i n h lt = omega (arith, rank-suc F j i h, rank-mono F j (suc i) n lt)
 
-start-mono : (F : Graph) (n a b : ℕ) → a ≤ b → start F n a ≤ start F n b
+pub start-mono : (F : Graph) (n a b : ℕ) → a ≤ b → start F n a ≤ start F n b
 unfolding start
 start-mono F n a zero h = let e : a ≡ 0 = omega arith in rw e (omega arith)
 start-mono F n a (suc b) h = elim (cases-eq a (suc b)) [
@@ -56,7 +56,7 @@ start-mono F n a (suc b) h = elim (cases-eq a (suc b)) [
   | inr d ↦ (let h′ : a ≤ b = omega (arith, d) in omega (arith, start-mono F n a b h′))
 ]
 
-start-suc : (F : Graph) (n j : ℕ) → start F n (suc j) ≡ start F n j + rank F j n
+pub start-suc : (F : Graph) (n j : ℕ) → start F n (suc j) ≡ start F n j + rank F j n
 unfolding start
 start-suc F n j = refl
 
@@ -151,7 +151,7 @@ cell-all F n p h =
     (r .0, j, some-cell F n (r .0) j (r .1) (r .2) ∙ ap (λ (x : ℕ). Some x) e)
 
 -- a column has its own position, and its later ones
-rank-later : (F : Graph) (j i : ℕ) → rank F j i ≡ cond (ltb j i) 1 0 + later F j i
+pub rank-later : (F : Graph) (j i : ℕ) → rank F j i ≡ cond (ltb j i) 1 0 + later F j i
 unfolding rank later inColumn
 rank-later F j zero = grind (arith, tells)
 rank-later F j (suc i) = let h = rank-later F j i in grind (arith, tells)

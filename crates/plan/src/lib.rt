@@ -2,6 +2,10 @@
 //! and the reserve of places that is only ever frozen from a plan.
 ghost use Rattle.plan.specs.Layout.{No-gap};
 
+mod reserve;
+
+pub use reserve::Reserve;
+
 /// The places of every reserve are numbered from 0 without gap and without repeat.
 pub fn places_have_no_gap() -> u8
     ensures { λ _. ⌜ No-gap ⌝ }
