@@ -55,24 +55,24 @@ module _ {E : Type 0} (K : Kind E) where
   pivotal-some (Some x) h = refl
 
   pivot-keeps : (k : ℕ) (S : Square E) (a b : ℕ) → isSome (S a b) ≡ true → isSome (pivot K k S a b) ≡ true
-  pivot-keeps k S a b h = elim (cases-bool (beyond k a b))
-      [ inl t ↦ ap isSome (part-on K k (beyond k) S a b t) ∙ met-keeps (S a b) (S a k) (S k k) (S b k) h
-      | inr f ↦ ap isSome (part-off K k (beyond k) S a b f) ∙ h
-      ]
+  pivot-keeps k S a b h = elim (cases-bool (beyond k a b)) [
+    | inl t ↦ ap isSome (part-on K k (beyond k) S a b t) ∙ met-keeps (S a b) (S a k) (S k k) (S b k) h
+    | inr f ↦ ap isSome (part-off K k (beyond k) S a b f) ∙ h
+  ]
 
   pivot-fills : (k : ℕ) (S : Square E) (a b : ℕ) → k < b → b ≤ a → isSome (S a k) ≡ true → isSome (S k k) ≡ true → isSome (S b k) ≡ true → isSome (pivot K k S a b) ≡ true
   pivot-fills k S a b lt le hl hp hr = ap isSome (part-on K k (beyond k) S a b (grind (arith, tells))) ∙ met-fills (S a b) (S a k) (S k k) (S b k) hl hp hr
 
   pivot-cases : (k : ℕ) (S : Square E) (a b : ℕ) → isSome (pivot K k S a b) ≡ true → (isSome (S a b) ≡ true) ⊎ ((k < b) × (b ≤ a) × (isSome (S a k) ≡ true) × (isSome (S b k) ≡ true))
-  pivot-cases k S a b h = elim (cases-bool (beyond k a b))
-      [ inl t ↦
-          (let lt : k < b = grind (arith, tells) in
-          let le : b ≤ a = grind (arith, tells) in
-          ⊎-elim (λ (x : isSome (S a b) ≡ true). inl x)
-              (λ (x : (isSome (S a k) ≡ true) × (isSome (S b k) ≡ true)). inr (lt, le, x .0, x .1))
-              (met-cases (S a b) (S a k) (S k k) (S b k) (sym (ap isSome (part-on K k (beyond k) S a b t)) ∙ h)))
-      | inr f ↦ inl (sym (ap isSome (part-off K k (beyond k) S a b f)) ∙ h)
-      ]
+  pivot-cases k S a b h = elim (cases-bool (beyond k a b)) [
+    | inl t ↦
+        (let lt : k < b = grind (arith, tells) in
+        let le : b ≤ a = grind (arith, tells) in
+        ⊎-elim (λ (x : isSome (S a b) ≡ true). inl x)
+        (λ (x : (isSome (S a k) ≡ true) × (isSome (S b k) ≡ true)). inr (lt, le, x .0, x .1))
+        (met-cases (S a b) (S a k) (S k k) (S b k) (sym (ap isSome (part-on K k (beyond k) S a b t)) ∙ h)))
+    | inr f ↦ inl (sym (ap isSome (part-off K k (beyond k) S a b f)) ∙ h)
+  ]
 
   -- the columns up to k are not altered by pivot k
   pivot-column : (k : ℕ) (S : Square E) (a m : ℕ) → m ≤ k → pivot K k S a m ≡ S a m
@@ -93,16 +93,16 @@ module _ {E : Type 0} (K : Kind E) where
       let s = sound F n xs loading 0 S Q closed r in
       let i = rowOf xs a b in
       let j = columnOf xs a b in
-      record
-      { within = λ x y h. elim (cases-bool (single i j x y))
-          [ inl t ↦ (let w = and-parts (eqb x i) (eqb y j) t in rw (eqb-true x i (w .0), eqb-true y j (w .1)) here)
+      record {
+        within = λ x y h. elim (cases-bool (single i j x y)) [
+          | inl t ↦ (let w = and-parts (eqb x i) (eqb y j) t in rw (eqb-true x i (w .0), eqb-true y j (w .1)) here)
           | inr f ↦ s .within x y (simp f at h)
-          ]
-      ; puts = λ x y h. elim (cases-bool (single i j x y))
-          [ inl t ↦ simp t
+        ];
+        puts = λ x y h. elim (cases-bool (single i j x y)) [
+          | inl t ↦ simp t
           | inr f ↦ simp f (⊎-elim (s .puts x y) (λ (t : single i j x y ≡ true). absurd (both-ways (single i j x y) f t)) (or-cases (Q x y) (single i j x y) h))
-          ]
-      ; joins = λ x y m lt. absurd (omega arith)
+        ];
+        joins = λ x y m lt. absurd (omega arith);
       }
   sound F n xs stage k sq P closed (put-first-unknown r a h) = same-sound (sound F n xs loading 0 sq P closed r)
   sound F n xs stage k sq P closed (put-second-unknown r a b g h) = same-sound (sound F n xs loading 0 sq P closed r)
@@ -112,21 +112,21 @@ module _ {E : Type 0} (K : Kind E) where
   sound F n xs stage k sq P closed (stepped {k = q} {sq = S} {P = Q} r lt usable) =
       let s = sound F n xs running q S Q closed r in
       let middle = pivotal-some (S q q) usable in
-      record
-      { within = λ i j h. ⊎-elim (s .within i j)
-          (λ (x : (q < j) × (j ≤ i) × (isSome (S i q) ≡ true) × (isSome (S j q) ≡ true)).
-              let a = some-is (cell F n i q) (s .within i q (x .2)) in
-              let c = some-is (cell F n j q) (s .within j q (x .3)) in
-              ap isSome (closed-cell F n i j q (a .0) (c .0) closed (x .0) (x .1) (a .1) (c .1) .1))
-          (pivot-cases q S i j h)
-      ; puts = λ i j h. pivot-keeps q S i j (s .puts i j h)
-      ; joins = λ i j m mk mj ji hl hr.
-          let hl′ : isSome (S i m) ≡ true = sym (ap isSome (pivot-column q S i m (omega arith))) ∙ hl in
-          let hr′ : isSome (S j m) ≡ true = sym (ap isSome (pivot-column q S j m (omega arith))) ∙ hr in
-          elim (cases-eq m q)
-          [ inl e ↦ pivot-fills q S i j (omega arith) ji (rw e at hl′) middle (rw e at hr′)
-          | inr d ↦ pivot-keeps q S i j (s .joins i j m (omega (arith, d)) mj ji hl′ hr′)
-          ]
+      record {
+        within = λ i j h. ⊎-elim (s .within i j)
+            (λ (x : (q < j) × (j ≤ i) × (isSome (S i q) ≡ true) × (isSome (S j q) ≡ true)).
+            let a = some-is (cell F n i q) (s .within i q (x .2)) in
+            let c = some-is (cell F n j q) (s .within j q (x .3)) in
+            ap isSome (closed-cell F n i j q (a .0) (c .0) closed (x .0) (x .1) (a .1) (c .1) .1))
+            (pivot-cases q S i j h);
+        puts = λ i j h. pivot-keeps q S i j (s .puts i j h);
+        joins = λ i j m mk mj ji hl hr.
+            let hl′ : isSome (S i m) ≡ true = sym (ap isSome (pivot-column q S i m (omega arith))) ∙ hl in
+            let hr′ : isSome (S j m) ≡ true = sym (ap isSome (pivot-column q S j m (omega arith))) ∙ hr in
+            elim (cases-eq m q) [
+              | inl e ↦ pivot-fills q S i j (omega arith) ji (rw e at hl′) middle (rw e at hr′)
+              | inr d ↦ pivot-keeps q S i j (s .joins i j m (omega (arith, d)) mj ji hl′ hr′)
+            ];
       }
   sound F n xs stage k sq P closed (step-finished r) = same-sound (sound F n xs running n sq P closed r)
   sound F n xs stage k sq P closed (step-short r e m h) = same-sound (sound F n xs running k sq P closed r)
@@ -143,9 +143,9 @@ module _ {E : Type 0} (K : Kind E) where
   filled-held F n k sq P C s ground all e (suc top) i j lt li ji h = ⊎-elim
       (λ (c : C i j ≡ true). s .puts i j (all .couplings i j li ji c))
       (λ (x : (m : ℕ) × (m < j) × (F i m ≡ true) × (F j m ≡ true)).
-          s .joins i j (x .0) (omega (arith, x .1)) (x .1) (omega arith)
-              (filled-held F n k sq P C s ground all e top i (x .0) (omega (arith, x .1)) li (omega (arith, x .1)) (x .2))
-              (filled-held F n k sq P C s ground all e top j (x .0) (omega (arith, x .1)) (omega arith) (x .1) (x .3)))
+      s .joins i j (x .0) (omega (arith, x .1)) (x .1) (omega arith)
+      (filled-held F n k sq P C s ground all e top i (x .0) (omega (arith, x .1)) li (omega (arith, x .1)) (x .2))
+      (filled-held F n k sq P C s ground all e top j (x .0) (omega (arith, x .1)) (omega arith) (x .1) (x .3)))
       (ground i j li ji h)
 
   pub whole : Run-is-whole K
@@ -162,7 +162,7 @@ module _ {E : Type 0} (K : Kind E) where
       full C ground all e i j x =
           let t = cell-some F n i j (x .0) (x .1) in
           let le = column-le F j i (t .here) in
-          elim (cases-eq i j)
-          [ inl q ↦ (let d : isSome (sq i i) ≡ true = s .puts i i (all .diagonals i (t .within)) in rw (sym q) d)
-          | inr d ↦ (let lt : j < i = omega (arith, d) in filled-held F n k sq P C s ground all e (suc j) i j (omega arith) (t .within) lt (pair i j lt (t .here)))
+          elim (cases-eq i j) [
+            | inl q ↦ (let d : isSome (sq i i) ≡ true = s .puts i i (all .diagonals i (t .within)) in rw (sym q) d)
+            | inr d ↦ (let lt : j < i = omega (arith, d) in filled-held F n k sq P C s ground all e (suc j) i j (omega arith) (t .within) lt (pair i j lt (t .here)))
           ]

@@ -14,6 +14,7 @@ use Rattle.std.specs.declared.option.Option.{Option}
 use Rattle.std.specs.declared.option.Option.the-variants.{Some, None}
 use Rattle.elimination.specs.Graphs.{Graph}
 use Rattle.plan.specs.Layout.{inColumn, places, cell, Closed}
+use Rattle.plan.specs.Reserves.{hasPlace}
 use Rattle.run.specs.Kinds.{Kind}
 use Rattle.run.specs.Square.{Square, taken, met, part, pivot, single, beyond}
 use Rattle.run.specs.Tables.{entryAt, entryOf, squareOf, Room}
@@ -39,10 +40,10 @@ module _ {E : Type 0} (K : Kind E) (F : Graph) (n k : ℕ) where
       S = squareOf F n es ms
 
       idle : (B : ℕ → ℕ → Bool) (a b : ℕ) → (S a k ≡ None) ⊎ (S b k ≡ None) → part K k B S a b ≡ S a b
-      idle B a b e = elim (cases-bool (B a b))
-          [ inl t ↦ part-on K k B S a b t ∙ ⊎-elim (met-no-left K (S a b) (S a k) (S k k) (S b k)) (met-no-right K (S a b) (S a k) (S k k) (S b k)) e
-          | inr f ↦ part-off K k B S a b f
-          ]
+      idle B a b e = elim (cases-bool (B a b)) [
+        | inl t ↦ part-on K k B S a b t ∙ ⊎-elim (met-no-left K (S a b) (S a k) (S k k) (S b k)) (met-no-right K (S a b) (S a k) (S k k) (S b k)) e
+        | inr f ↦ part-off K k B S a b f
+      ]
 
       like : (a b : ℕ) → part K k D S a b ≡ part K k C S a b
       like a b = ⊎-elim
@@ -53,10 +54,10 @@ module _ {E : Type 0} (K : Kind E) (F : Graph) (n k : ℕ) where
   pub and-then : (D₁ D₂ D₃ : ℕ → ℕ → Bool) (es : List E) (ms : List ℕ) (es' : List E) (ms' : List ℕ) (es'' : List E) (ms'' : List ℕ)
       → ((a : ℕ) → D₁ a k ≡ false) → ((a b : ℕ) → D₂ a b ≡ true → D₁ a b ≡ false) → ((a b : ℕ) → D₃ a b ≡ (D₁ a b || D₂ a b))
       → Pivoted K F n k D₁ es ms es' ms' → Pivoted K F n k D₂ es' ms' es'' ms'' → Pivoted K F n k D₃ es ms es'' ms''
-  and-then D₁ D₂ D₃ es ms es' ms' es'' ms'' none apart both one two = record
-      { square = part-more K k D₁ D₂ D₃ (squareOf F n es ms) (squareOf F n es' ms') (squareOf F n es'' ms'') none apart both (one .square) (two .square)
-      ; kept = kept-more (places F n) es ms es' ms' es'' ms'' (one .kept) (two .kept)
-      }
+  and-then D₁ D₂ D₃ es ms es' ms' es'' ms'' none apart both one two = record {
+    square = part-more K k D₁ D₂ D₃ (squareOf F n es ms) (squareOf F n es' ms') (squareOf F n es'' ms'') none apart both (one .square) (two .square);
+    kept = kept-more (places F n) es ms es' ms' es'' ms'' (one .kept) (two .kept);
+  }
 
   -- no left, no right
   pub no-left : (i j : ℕ) (es : List E) (ms : List ℕ) → squareOf F n es ms i k ≡ None → Pivoted K F n k (single i j) es ms es ms
@@ -69,10 +70,10 @@ module _ {E : Type 0} (K : Kind E) (F : Graph) (n k : ℕ) where
   pub written : (i j p : ℕ) (es : List E) (ms : List ℕ) (l q r : E) → Room F n es ms → cell F n i j ≡ Some p
       → squareOf F n es ms i k ≡ Some l → squareOf F n es ms k k ≡ Some q → squareOf F n es ms j k ≡ Some r
       → Pivoted K F n k (single i j) es ms (set es p (taken K (entryAt es ms p) l q r)) (set ms p (cond (eqb (getD ms p 0) 0) 1 (getD ms p 0)))
-  written i j p es ms l q r room here hl hq hr = record
-      { square = λ a b. set-square F n i j p m es ms v here le lm some a b ∙ at a b
-      ; kept = kept-set (places F n) p m es ms v lt lm some keep one
-      }
+  written i j p es ms l q r room here hl hq hr = record {
+    square = λ a b. set-square F n i j p m es ms v here le lm some a b ∙ at a b;
+    kept = kept-set (places F n) p m es ms v lt lm some keep one;
+  }
     where
       S : Square E
       S = squareOf F n es ms
@@ -102,16 +103,16 @@ module _ {E : Type 0} (K : Kind E) (F : Graph) (n k : ℕ) where
       one e = grind (arith, tells)
 
       at : (a b : ℕ) → cond (eqb a i && eqb b j) (Some v) (S a b) ≡ part K k (single i j) S a b
-      at a b = elim (cases-bool (single i j a b))
-          [ inl t ↦
-              (let w = and-parts (eqb a i) (eqb b j) t in
-              let ea : a ≡ i = eqb-true a i (w .0) in
-              let eb : b ≡ j = eqb-true b j (w .1) in
-              let o : S i j ≡ entryAt es ms p = square-some F n i j es ms p here in
-              let x : met K (S a b) (S a k) (S k k) (S b k) ≡ Some v = rw (ea, eb, hl, hq, hr, o) refl in
-              simp t (sym (part-on K k (single i j) S a b t ∙ x)))
-          | inr f ↦ simp f (sym (part-off K k (single i j) S a b f))
-          ]
+      at a b = elim (cases-bool (single i j a b)) [
+        | inl t ↦
+            (let w = and-parts (eqb a i) (eqb b j) t in
+            let ea : a ≡ i = eqb-true a i (w .0) in
+            let eb : b ≡ j = eqb-true b j (w .1) in
+            let o : S i j ≡ entryAt es ms p = square-some F n i j es ms p here in
+            let x : met K (S a b) (S a k) (S k k) (S b k) ≡ Some v = rw (ea, eb, hl, hq, hr, o) refl in
+            simp t (sym (part-on K k (single i j) S a b t ∙ x)))
+        | inr f ↦ simp f (sym (part-off K k (single i j) S a b f))
+      ]
 
   -- the rows of one column, and the columns, one after another
   pub row-none : (j : ℕ) (es : List E) (ms : List ℕ) → Pivoted K F n k (inOne j j) es ms es ms
@@ -128,12 +129,60 @@ module _ {E : Type 0} (K : Kind E) (F : Graph) (n k : ℕ) where
       → Pivoted K F n k (inUpTo k n j) es ms es' ms' → Pivoted K F n k (inOne j n) es' ms' es'' ms'' → Pivoted K F n k (inUpTo k n (j + 1)) es ms es'' ms''
   column-more j es ms es' ms' es'' ms'' kj = and-then (inUpTo k n j) (inOne j n) (inUpTo k n (j + 1)) es ms es' ms' es'' ms'' (λ a. grind (arith, tells)) (λ a b t. grind (arith, tells)) (λ a b. grind (arith, tells))
 
-  pub column-all : (es : List E) (ms : List ℕ) (es' : List E) (ms' : List ℕ) → Pivoted K F n k (inUpTo k n n) es ms es' ms' → Pivoted K F n k (beyond k) es ms es' ms'
-  column-all es ms es' ms' = chosen-as (inUpTo k n n) (beyond k) es ms es' ms'
-      (λ a b. elim (cases-lt a n)
-          [ inl lt ↦ inl (grind (arith, tells))
-          | inr ge ↦ inr (inl (square-none F n a k es ms (cell-out F n a k ge)))
-          ])
+  -- what the column k has no place for meets nothing
+  no-place : (a : ℕ) (es : List E) (ms : List ℕ) → hasPlace F n k a ≡ false → squareOf F n es ms a k ≡ None
+  unfolding cell
+  no-place a es ms h = square-none F n a k es ms (simp h)
+
+  out-of-rows : (a : ℕ) (es : List E) (ms : List ℕ) → n ≤ a → squareOf F n es ms a k ≡ None
+  out-of-rows a es ms h = square-none F n a k es ms (cell-out F n a k h)
+
+  pub row-skip : (j from i : ℕ) (es : List E) (ms : List ℕ) (es' : List E) (ms' : List ℕ) → ((a : ℕ) → from ≤ a → a < i → hasPlace F n k a ≡ false) → from ≤ i
+      → Pivoted K F n k (inOne j from) es ms es' ms' → Pivoted K F n k (inOne j i) es ms es' ms'
+  row-skip j from i es ms es' ms' none le = chosen-as (inOne j from) (inOne j i) es ms es' ms'
+      (λ a b. elim (cases-lt a from) [
+        | inl lt ↦ inl (grind (arith, tells))
+        | inr ge ↦ elim (cases-lt a i) [
+          | inl lt ↦ inr (inl (no-place a es ms (none a ge lt)))
+          | inr high ↦ inl (grind (arith, tells))
+        ]
+      ])
+
+  pub row-all : (j from : ℕ) (es : List E) (ms : List ℕ) (es' : List E) (ms' : List ℕ) → ((a : ℕ) → from ≤ a → a < n → hasPlace F n k a ≡ false)
+      → Pivoted K F n k (inOne j from) es ms es' ms' → Pivoted K F n k (inOne j n) es ms es' ms'
+  row-all j from es ms es' ms' none = chosen-as (inOne j from) (inOne j n) es ms es' ms'
+      (λ a b. elim (cases-lt a n) [
+        | inl lt ↦ elim (cases-lt a from) [
+          | inl low ↦ inl (grind (arith, tells))
+          | inr ge ↦ inr (inl (no-place a es ms (none a ge lt)))
+        ]
+        | inr ge ↦ inr (inl (out-of-rows a es ms ge))
+      ])
+
+  pub column-skip : (from j : ℕ) (es : List E) (ms : List ℕ) (es' : List E) (ms' : List ℕ) → ((b : ℕ) → from ≤ b → b < j → hasPlace F n k b ≡ false) → from ≤ j
+      → Pivoted K F n k (inUpTo k n from) es ms es' ms' → Pivoted K F n k (inUpTo k n j) es ms es' ms'
+  column-skip from j es ms es' ms' none le = chosen-as (inUpTo k n from) (inUpTo k n j) es ms es' ms'
+      (λ a b. elim (cases-lt b from) [
+        | inl lt ↦ inl (grind (arith, tells))
+        | inr ge ↦ elim (cases-lt b j) [
+          | inl lt ↦ inr (inr (no-place b es ms (none b ge lt)))
+          | inr high ↦ inl (grind (arith, tells))
+        ]
+      ])
+
+  pub column-all : (from : ℕ) (es : List E) (ms : List ℕ) (es' : List E) (ms' : List ℕ) → ((b : ℕ) → from ≤ b → b < n → hasPlace F n k b ≡ false)
+      → Pivoted K F n k (inUpTo k n from) es ms es' ms' → Pivoted K F n k (beyond k) es ms es' ms'
+  column-all from es ms es' ms' none = chosen-as (inUpTo k n from) (beyond k) es ms es' ms'
+      (λ a b. elim (cases-lt a n) [
+        | inl lt ↦ elim (cases-lt b from) [
+          | inl low ↦ inl (grind (arith, tells))
+          | inr ge ↦ elim (cases-lt b n) [
+            | inl within ↦ inr (inr (no-place b es ms (none b ge within)))
+            | inr high ↦ inl (grind (arith, tells))
+          ]
+        ]
+        | inr ge ↦ inr (inl (out-of-rows a es ms ge))
+      ])
 
   pub wrote : (i j p : ℕ) (es : List E) (ms : List ℕ) (es' : List E) (ms' : List ℕ) (l q r : E)
       → es' ≡ set es p (taken K (entryAt es ms p) l q r) → ms' ≡ set ms p (cond (eqb (getD ms p 0) 0) 1 (getD ms p 0))

@@ -39,7 +39,6 @@ Short need entries marks = (entries < need) ⊎ (marks < need)
 -- It tells the stage, how many pivots were made, the full square, and which of its places were put.
 pub data RunHistory {E : Type 0} (K : Kind E) (F : Graph) (n : ℕ) (xs : List ℕ) : Stage → ℕ → Square E → Graph → Type 0 where
   started : RunHistory K F n xs loading 0 empty (λ i j. false)
-
   put : {sq : Square E} {P : Graph} → RunHistory K F n xs loading 0 sq P → (a b : ℕ) (e : E) → a < n → b < n → isSome (stationsPlace F n xs a b) ≡ true
       → RunHistory K F n xs loading 0 (withEntry sq (rowOf xs a b) (columnOf xs a b) e) (λ i j. P i j || single (rowOf xs a b) (columnOf xs a b) i j)
   put-first-unknown : {sq : Square E} {P : Graph} → RunHistory K F n xs loading 0 sq P → (a : ℕ) → n ≤ a
@@ -50,9 +49,7 @@ pub data RunHistory {E : Type 0} (K : Kind E) (F : Graph) (n : ℕ) (xs : List �
       → RunHistory K F n xs loading 0 sq P
   put-without-place : {sq : Square E} {P : Graph} → RunHistory K F n xs loading 0 sq P → (a b : ℕ) → a < n → b < n → stationsPlace F n xs a b ≡ None
       → RunHistory K F n xs loading 0 sq P
-
   begun : {sq : Square E} {P : Graph} → RunHistory K F n xs loading 0 sq P → RunHistory K F n xs running 0 sq P
-
   stepped : {k : ℕ} {sq : Square E} {P : Graph} → RunHistory K F n xs running k sq P → k < n → pivotal K (sq k k) ≡ true
       → RunHistory K F n xs running (k + 1) (pivot K k sq) P
   step-finished : {sq : Square E} {P : Graph} → RunHistory K F n xs running n sq P → RunHistory K F n xs running n sq P
@@ -60,9 +57,7 @@ pub data RunHistory {E : Type 0} (K : Kind E) (F : Graph) (n : ℕ) (xs : List �
       → RunHistory K F n xs running k sq P
   step-unusable : {k : ℕ} {sq : Square E} {P : Graph} → RunHistory K F n xs running k sq P → k < n → pivotal K (sq k k) ≡ false
       → RunHistory K F n xs running k sq P
-
   finished : {k : ℕ} {sq : Square E} {P : Graph} → RunHistory K F n xs running k sq P → RunHistory K F n xs ended k sq P
-
   asked : {k : ℕ} {sq : Square E} {P : Graph} → RunHistory K F n xs ended k sq P → (a b : ℕ) → a < n → b < n
       → RunHistory K F n xs ended k sq P
   asked-first-unknown : {k : ℕ} {sq : Square E} {P : Graph} → RunHistory K F n xs ended k sq P → (a : ℕ) → n ≤ a

@@ -57,8 +57,8 @@ putPlaces xs a b (Err f) P = P
 abbrev pub stepOutcome : {E : Type 0} → Kind E → ℕ → ℕ → ℕ → ℕ → ℕ → Option E → Result Step Fault
 stepOutcome K need entries marks n made held =
     cond (ltb entries need || ltb marks need) (Err (at 17 need))
-        (cond (eqb made n) (Ok Finished)
-            (cond (pivotal K held) (Ok Made) (Err (at 19 made))))
+    (cond (eqb made n) (Ok Finished)
+    (cond (pivotal K held) (Ok Made) (Err (at 19 made))))
 
 -- whether a pivot was made
 abbrev pub isMade : Result Step Fault → Bool

@@ -2,7 +2,7 @@
 use mathlib.Core.Path.{_≡_}
 use mathlib.Core.List.{List, [], _∷_}
 use mathlib.Core.Bool.{Bool, cond}
-use Prim.Native.Nat.{ℕ, zero, suc, _≤_}
+use Prim.Native.Nat.{ℕ, zero, suc, _<_, _≤_}
 use lib.Dec.{eqb}
 use lib.ListN.{length, getD, set}
 use Rattle.std.specs.Finite.{nth}
@@ -20,6 +20,11 @@ entryAt es ms p = cond (eqb (getD ms p 0) 0) None (nth es p)
 abbrev pub entryOf : {E : Type 0} → List E → List ℕ → Option ℕ → Option E
 entryOf es ms None = None
 entryOf es ms (Some p) = entryAt es ms p
+
+-- a place lies within two tables of these lengths
+abbrev pub Within : ℕ → ℕ → Option ℕ → Type 0
+Within entries marks None = Unit {0}
+Within entries marks (Some p) = (p < entries) × (p < marks)
 
 -- the square that the tables hold, over the filled pairs F of n positions
 unfoldable pub squareOf : {E : Type 0} → Graph → ℕ → List E → List ℕ → Square E

@@ -1,7 +1,9 @@
 //! The run over a reserve: kinds of entry, the states of a run, and what holds of every history of one.
 //! Entries and marks lie in two tables that the caller lends to each call.
 mod kinds;
+mod pivots;
 mod states;
+mod tables;
 
 pub use kinds::Entry;
 pub use kinds::Level;
