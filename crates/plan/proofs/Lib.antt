@@ -1,2 +1,4 @@
 pub mod Numbering
 pub mod Columns
+pub mod Grounds
+pub mod Positions

@@ -1,3 +1,4 @@
 pub mod Layout
+pub mod OrderLists
 pub mod Reserves
 pub mod ReserveView

@@ -2,6 +2,7 @@
 //! and the reserve of places that is only ever frozen from a plan.
 ghost use Rattle.plan.specs.Layout.{No-gap};
 
+mod orders;
 mod reserve;
 
 pub use reserve::Reserve;
