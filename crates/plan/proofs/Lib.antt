@@ -2,3 +2,4 @@ pub mod Numbering
 pub mod Columns
 pub mod Grounds
 pub mod Positions
+pub mod StationPlaces

@@ -2,3 +2,4 @@ pub mod Layout
 pub mod OrderLists
 pub mod Reserves
 pub mod ReserveView
+pub mod ReserveLaws
