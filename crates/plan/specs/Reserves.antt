@@ -1,14 +1,18 @@
 -- What every reserve keeps, over its filled pairs by positions and its number of stations.
 use mathlib.Core.Path.{_≡_}
 use mathlib.Core.List.{List}
-use mathlib.Core.Bool.{Bool, true, false, _&&_}
+use mathlib.Core.Bool.{Bool, true, false, cond, _&&_}
 use Prim.Native.Nat.{ℕ, _-_, _<_, _≤_}
 use lib.Dec.{ltb}
-use lib.ListN.{getD}
+use lib.ListN.{getD, length}
 use Rattle.std.specs.declared.option.Option.{Option}
+use Rattle.std.specs.declared.result.Result.{Result}
+use Rattle.std.specs.declared.result.Result.the-variants.{Ok, Err}
 use Rattle.network.specs.Net.{firstFrom}
+use Rattle.network.specs.Refusals.{Fault, at}
 use Rattle.elimination.specs.Graphs.{Graph}
-use Rattle.plan.specs.Layout.{inColumn, start}
+use Rattle.elimination.specs.Orders.{positionOf}
+use Rattle.plan.specs.Layout.{inColumn, placeOf, start}
 
 -- a pair is unordered
 abbrev pub Symmetric : Graph → Type 0
@@ -33,3 +37,15 @@ hasPlace F n j i = ltb i n && inColumn F j i
 -- the first row not below `from` that has a place in the column j; no reserve has more than 512 rows
 abbrev pub nextInColumn : Graph → ℕ → ℕ → ℕ → Option ℕ
 nextInColumn F n j from = firstFrom (hasPlace F n j) from (512 - from)
+
+-- a graph over stations, by their positions in the order xs
+abbrev pub byPosition : Graph → List ℕ → Graph
+byPosition G xs i j = ltb i (length xs) && (ltb j (length xs) && G (getD xs i 0) (getD xs j 0))
+
+-- an answer, if the number is below n, else its refusal
+abbrev pub known : {X : Type 0} → ℕ → ℕ → Result X Fault → Result X Fault
+known n a answer = cond (ltb a n) answer (Err (at 15 a))
+
+-- the place of two stations of the order xs, or none
+abbrev pub placeOfStations : Graph → ℕ → List ℕ → ℕ → ℕ → Option ℕ
+placeOfStations F n xs a b = placeOf F n (positionOf xs a) (positionOf xs b)

@@ -8,6 +8,8 @@ use elimination::EliminationOrder;
 use elimination::PairSet;
 
 mod calls;
+pub(crate) mod laws;
+mod parts;
 
 /// A place for each station and each filled pair of one order.
 #[derive(Drop)]

@@ -5,7 +5,7 @@ use native.Mathlib.Omega.{arith}
 use lib.ListN.{length, getD, length-set}
 use Rattle.elimination.specs.View.{graph}
 use Rattle.plan.proofs.Columns.{begins-none, begins-more, start-small}
-use Rattle.plan.proofs.reserve.calls.column_starts.Needs as need
+use Rattle.plan.proofs.reserve.parts.column_starts.Needs as need
 
 pub loop-j-holds : need.loop-j-holds
 loop-j-holds c = (begins-none (graph (c .args .pairs .now)) (c .args .n) (c .no-starts-starts .result) (c .no-starts-starts .ensures 0), search needs)

@@ -5,7 +5,7 @@ use native.Mathlib.Omega.{arith}
 use lib.ListN.{getD, replicate, length, getD-replicate, length-replicate}
 use Rattle.std.proofs.shelf.Lists.{getD-past}
 use Rattle.std.proofs.shelf.Tests.{cases-lt}
-use Rattle.plan.proofs.reserve.calls.no_starts.Needs as need
+use Rattle.plan.proofs.reserve.parts.no_starts.Needs as need
 
 zeros : (n k : ℕ) → _≡_ {A = ℕ} (getD (replicate n 0) k 0) 0
 zeros n k = ⊎-elim
