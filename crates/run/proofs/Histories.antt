@@ -15,11 +15,12 @@ use Rattle.std.specs.declared.option.Option.{Option}
 use Rattle.std.specs.declared.option.Option.the-variants.{Some, None}
 use Rattle.elimination.specs.Graphs.{Graph}
 use Rattle.plan.specs.Layout.{inColumn, places, placeOf, cell, Closed}
+use Rattle.plan.specs.ReserveLaws.{Grounded}
 use Rattle.plan.proofs.Numbering.{cell-some, cell-below, column-le}
 use Rattle.run.specs.Kinds.{Kind}
 use Rattle.run.specs.Square.{Square, empty, met, part, pivot, pivotal, single, withEntry, beyond}
 use Rattle.run.specs.Tables.{squareOf, entryAt, Room, zeroed}
-use Rattle.run.specs.Histories.{Stage, RunHistory, Grounded, AllPut, Run-is-whole, Agrees, rowOf, columnOf, stationsPlace}
+use Rattle.run.specs.Histories.{Stage, RunHistory, AllPut, Run-is-whole, Agrees, rowOf, columnOf}
 use Rattle.run.specs.Histories.Stage.{loading, running, ended}
 use Rattle.run.specs.Histories.RunHistory.{started, put, put-first-unknown, put-second-unknown, put-short, put-without-place, begun, stepped, step-finished, step-short, step-unusable, finished, asked, asked-first-unknown, asked-second-unknown, asked-short}
 use Rattle.run.proofs.Parts.{part-on, part-off, part-like, closed-cell, set-square}

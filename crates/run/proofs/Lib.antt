@@ -2,3 +2,4 @@ pub mod Parts
 pub mod Steps
 pub mod Histories
 pub mod Zeroes
+pub mod Written

@@ -83,10 +83,10 @@ part-idle K k D S idle a b = elim (cases-bool (D a b)) [
 ]
 
 -- a write
-nth-set-same : {E : Type 0} (xs : List E) (i : ℕ) (v : E) → i < length xs → nth (set xs i v) i ≡ Some v
+pub nth-set-same : {E : Type 0} (xs : List E) (i : ℕ) (v : E) → i < length xs → nth (set xs i v) i ≡ Some v
 nth-set-same xs i v h = nth-getD (set xs i v) i v (rw length-set h) ∙ ap (λ x. Some x) (getD-set-same xs i v v h)
 
-nth-set-other : {E : Type 0} (xs : List E) (i j : ℕ) (v : E) → j ≢ i → nth (set xs i v) j ≡ nth xs j
+pub nth-set-other : {E : Type 0} (xs : List E) (i j : ℕ) (v : E) → j ≢ i → nth (set xs i v) j ≡ nth xs j
 nth-set-other [] i j v d = refl
 nth-set-other (x ∷ xs) zero zero v d = absurd (d refl)
 nth-set-other (x ∷ xs) zero (suc j) v d = refl

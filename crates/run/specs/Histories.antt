@@ -11,7 +11,9 @@ use Rattle.std.specs.declared.option.Option.{Option}
 use Rattle.std.specs.declared.option.Option.the-variants.{Some, None}
 use Rattle.elimination.specs.Graphs.{Graph}
 use Rattle.elimination.specs.Orders.{positionOf}
-use Rattle.plan.specs.Layout.{cell, placeOf, places, Closed}
+use Rattle.plan.specs.Layout.{cell, places, Closed}
+use Rattle.plan.specs.Reserves.{placeOfStations}
+use Rattle.plan.specs.ReserveLaws.{Grounded}
 use Rattle.run.specs.Kinds.{Kind}
 use Rattle.run.specs.Square.{Square, empty, pivot, pivotal, single, withEntry}
 
@@ -27,10 +29,6 @@ rowOf xs a b = max (positionOf xs a) (positionOf xs b)
 abbrev pub columnOf : List ℕ → ℕ → ℕ → ℕ
 columnOf xs a b = min (positionOf xs a) (positionOf xs b)
 
--- the place of two stations, or none
-abbrev pub stationsPlace : Graph → ℕ → List ℕ → ℕ → ℕ → Option ℕ
-stationsPlace F n xs a b = placeOf F n (positionOf xs a) (positionOf xs b)
-
 -- a table that is shorter than the reserve
 abbrev pub Short : ℕ → ℕ → ℕ → Type 0
 Short need entries marks = (entries < need) ⊎ (marks < need)
@@ -39,7 +37,7 @@ Short need entries marks = (entries < need) ⊎ (marks < need)
 -- It tells the stage, how many pivots were made, the full square, and which of its places were put.
 pub data RunHistory {E : Type 0} (K : Kind E) (F : Graph) (n : ℕ) (xs : List ℕ) : Stage → ℕ → Square E → Graph → Type 0 where
   started : RunHistory K F n xs loading 0 empty (λ i j. false)
-  put : {sq : Square E} {P : Graph} → RunHistory K F n xs loading 0 sq P → (a b : ℕ) (e : E) → a < n → b < n → isSome (stationsPlace F n xs a b) ≡ true
+  put : {sq : Square E} {P : Graph} → RunHistory K F n xs loading 0 sq P → (a b : ℕ) (e : E) → a < n → b < n → isSome (placeOfStations F n xs a b) ≡ true
       → RunHistory K F n xs loading 0 (withEntry sq (rowOf xs a b) (columnOf xs a b) e) (λ i j. P i j || single (rowOf xs a b) (columnOf xs a b) i j)
   put-first-unknown : {sq : Square E} {P : Graph} → RunHistory K F n xs loading 0 sq P → (a : ℕ) → n ≤ a
       → RunHistory K F n xs loading 0 sq P
@@ -47,7 +45,7 @@ pub data RunHistory {E : Type 0} (K : Kind E) (F : Graph) (n : ℕ) (xs : List �
       → RunHistory K F n xs loading 0 sq P
   put-short : {sq : Square E} {P : Graph} → RunHistory K F n xs loading 0 sq P → (a b entries marks : ℕ) → a < n → b < n → Short (places F n) entries marks
       → RunHistory K F n xs loading 0 sq P
-  put-without-place : {sq : Square E} {P : Graph} → RunHistory K F n xs loading 0 sq P → (a b : ℕ) → a < n → b < n → stationsPlace F n xs a b ≡ None
+  put-without-place : {sq : Square E} {P : Graph} → RunHistory K F n xs loading 0 sq P → (a b : ℕ) → a < n → b < n → placeOfStations F n xs a b ≡ None
       → RunHistory K F n xs loading 0 sq P
   begun : {sq : Square E} {P : Graph} → RunHistory K F n xs loading 0 sq P → RunHistory K F n xs running 0 sq P
   stepped : {k : ℕ} {sq : Square E} {P : Graph} → RunHistory K F n xs running k sq P → k < n → pivotal K (sq k k) ≡ true
@@ -73,10 +71,6 @@ pub record Agrees {E : Type 0} (F : Graph) (n : ℕ) (es : List E) (ms : List �
   pub unmarked : (i j p : ℕ) → cell F n i j ≡ Some p → getD ms p 0 ≡ 0 → sq i j ≡ None
   pub marked : (i j p : ℕ) → cell F n i j ≡ Some p → sq i j ≡ None → getD ms p 0 ≡ 0
   pub same : (i j p : ℕ) (e : E) → cell F n i j ≡ Some p → sq i j ≡ Some e → nth es p ≡ Some e
-
--- each filled pair is a coupling, or some earlier position forms filled pairs with both
-abbrev pub Grounded : Graph → ℕ → Graph → Type 0
-Grounded F n C = (i j : ℕ) → i < n → j < i → F i j ≡ true → (C i j ≡ true) ⊎ ((k : ℕ) × (k < j) × (F i k ≡ true) × (F j k ≡ true))
 
 -- every diagonal place and every coupling was put
 pub record AllPut (n : ℕ) (C P : Graph) : Type 0 where

@@ -8,34 +8,33 @@ use Rattle.std.specs.declared.option.Option.{Option}
 use Rattle.std.specs.declared.option.Option.the-variants.{Some, None}
 use Rattle.std.specs.declared.result.Result.{Result}
 use Rattle.std.specs.declared.result.Result.the-variants.{Ok, Err}
-use Rattle.network.specs.Refusals.{Fault, at, orElse, refuse}
+use Rattle.network.specs.Refusals.{Fault, at}
 use Rattle.elimination.specs.Graphs.{Graph}
 use Rattle.plan.specs.Layout.{places}
+use Rattle.plan.specs.Reserves.{known, placeOfStations}
 use Rattle.run.specs.declared.states.Step.{Step}
 use Rattle.run.specs.declared.states.Step.the-variants.{Made, Finished}
 use Rattle.run.specs.Kinds.{Kind}
 use Rattle.run.specs.Square.{Square, pivot, pivotal, single, withEntry}
-use Rattle.run.specs.Tables.{squareOf, entriesOver, marksOver}
-use Rattle.run.specs.Histories.{Stage, RunHistory, Agrees, stationsPlace, rowOf, columnOf}
+use Rattle.run.specs.Tables.{squareOf, entryOf, entriesOver, marksOver}
+use Rattle.run.specs.Histories.{Stage, RunHistory, Agrees, rowOf, columnOf}
 
--- the checks: 15, a station that is not below n; 17, a table shorter than the reserve; 18, two stations without a place
-abbrev pub unknown : ℕ → ℕ → Option Fault
-unknown n s = cond (ltb s n) None (refuse 15 s)
+-- an answer, if both tables are as long as the reserve, else the refusal 17
+abbrev pub roomy : {X : Type 0} → ℕ → ℕ → ℕ → Result X Fault → Result X Fault
+roomy need entries marks answer = cond (ltb entries need || ltb marks need) (Err (at 17 need)) answer
 
-abbrev pub short : ℕ → ℕ → ℕ → Option Fault
-short need entries marks = cond (ltb entries need || ltb marks need) (refuse 17 need) None
+-- two stations without a place are refused by 18
+abbrev pub placed : ℕ → ℕ → Option ℕ → Result (Unit {0}) Fault
+placed a b None = Err (at 18 (max a b))
+placed a b (Some p) = Ok tt
 
-abbrev pub placeless : ℕ → ℕ → Option ℕ → Option Fault
-placeless a b None = refuse 18 (max a b)
-placeless a b (Some p) = None
+-- a put, by the lengths of the tables and the two stations
+abbrev pub putOutcome : Graph → ℕ → List ℕ → ℕ → ℕ → ℕ → ℕ → Result (Unit {0}) Fault
+putOutcome F n xs entries marks a b = known n a (known n b (roomy (places F n) entries marks (placed a b (placeOfStations F n xs a b))))
 
--- the checks of two stations and the tables, in their order
-abbrev pub entryFault : Graph → ℕ → ℕ → ℕ → ℕ → ℕ → Option Fault
-entryFault F n entries marks a b = orElse (unknown n a) (orElse (unknown n b) (short (places F n) entries marks))
-
-abbrev pub putFault : Graph → ℕ → List ℕ → ℕ → ℕ → ℕ → ℕ → Option Fault
-putFault F n xs entries marks a b =
-    orElse (unknown n a) (orElse (unknown n b) (orElse (short (places F n) entries marks) (placeless a b (stationsPlace F n xs a b))))
+-- the entry of two stations; without a place it is empty
+abbrev pub entryOutcome : {E : Type 0} → Graph → ℕ → List ℕ → List E → List ℕ → ℕ → ℕ → Result (Option E) Fault
+entryOutcome F n xs es ms a b = known n a (known n b (roomy (places F n) (length es) (length ms) (Ok (entryOf es ms (placeOfStations F n xs a b)))))
 
 -- a table in which a put that was not refused wrote v at its place
 abbrev pub stored : {A X : Type 0} → Result X Fault → Option ℕ → A → List A → List A

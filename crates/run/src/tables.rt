@@ -6,10 +6,11 @@ ghost use Prim.Native.Nat.{_<_, _≤_};
 ghost use lib.Dec.{eqb};
 ghost use lib.ListN.{getD, length, set};
 ghost use Rattle.std.specs.Vec.{made};
-ghost use Rattle.network.specs.Refusals.{outcome, unless};
+ghost use Rattle.std.specs.declared.result.Result.the-variants.{Ok};
+ghost use Rattle.network.specs.Refusals.{outcome};
 ghost use Rattle.plan.specs.ReserveView.{filledIn, sizeIn};
 ghost use Rattle.run.specs.Kinds.{kind};
-ghost use Rattle.run.specs.Outcomes.{short};
+ghost use Rattle.run.specs.Outcomes.{roomy};
 ghost use Rattle.run.specs.Square.{taken};
 ghost use Rattle.run.specs.Tables.{Room, Within, entryAt, entryOf, squareOf, zeroed};
 use crate::kinds::Entry;
@@ -18,7 +19,7 @@ use plan::Reserve;
 
 /// Refuses tables that are shorter than `need`.
 pub(crate) fn check_room<E: Entry>(need: usize, entries: &[E], marks: &[u8]) -> Result<(), Refusal>
-    ensures value { λ r. ⌜ outcome r ≡ unless (short need (length (now (entries .entry))) (length (now (marks .entry)))) tt ⌝ }
+    ensures value { λ r. ⌜ outcome r ≡ roomy need (length (now (entries .entry))) (length (now (marks .entry))) (Ok tt) ⌝ }
     ensures room { λ r. ⌜ made r (λ _. (need ≤ length (now (entries .entry))) × (need ≤ length (now (marks .entry)))) ⌝ }
 {
     if entries.len() < need || marks.len() < need {
