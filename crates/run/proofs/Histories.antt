@@ -20,7 +20,7 @@ use Rattle.plan.proofs.Numbering.{cell-some, cell-below, column-le}
 use Rattle.run.specs.Kinds.{Kind}
 use Rattle.run.specs.Square.{Square, empty, met, part, pivot, pivotal, single, withEntry, beyond}
 use Rattle.run.specs.Tables.{squareOf, entryAt, Room, zeroed}
-use Rattle.run.specs.Histories.{Stage, RunHistory, AllPut, Run-is-whole, Agrees, rowOf, columnOf}
+use Rattle.run.specs.Histories.{Stage, RunHistory, AllPut, Runs-fill-exactly-the-places, Agrees, rowOf, columnOf}
 use Rattle.run.specs.Histories.Stage.{loading, running, ended}
 use Rattle.run.specs.Histories.RunHistory.{started, put, put-first-unknown, put-second-unknown, put-short, put-without-place, begun, stepped, step-finished, step-short, step-unusable, finished, asked, asked-first-unknown, asked-second-unknown, asked-short}
 use Rattle.run.proofs.Parts.{part-on, part-off, part-like, closed-cell, set-square}
@@ -149,7 +149,7 @@ module _ {E : Type 0} (K : Kind E) where
       (filled-held F n k sq P C s ground all e top j (x .0) (omega (arith, x .1)) (omega arith) (x .1) (x .3)))
       (ground i j li ji h)
 
-  pub whole : Run-is-whole K
+  pub whole : Runs-fill-exactly-the-places K
   unfolding inColumn
   whole F n xs stage k sq P closed r = (s .within, λ C ground all e i j h. full C ground all e i j (some-is (cell F n i j) h))
     where
@@ -167,3 +167,7 @@ module _ {E : Type 0} (K : Kind E) where
             | inl q ↦ (let d : isSome (sq i i) ≡ true = s .puts i i (all .diagonals i (t .within)) in rw (sym q) d)
             | inr d ↦ (let lt : j < i = omega (arith, d) in filled-held F n k sq P C s ground all e (suc j) i j (omega arith) (t .within) lt (pair i j lt (t .here)))
           ]
+
+  pub only-places : (F : Graph) (n : ℕ) (xs : List ℕ) (stage : Stage) (k : ℕ) (sq : Square E) (P : Graph) → Closed F n → RunHistory K F n xs stage k sq P
+      → (i j : ℕ) → isSome (sq i j) ≡ true → isSome (cell F n i j) ≡ true
+  only-places F n xs stage k sq P closed r = sound F n xs stage k sq P closed r .within

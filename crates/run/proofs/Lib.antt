@@ -3,3 +3,4 @@ pub mod Steps
 pub mod Histories
 pub mod Zeroes
 pub mod Written
+pub mod Calls

@@ -79,7 +79,7 @@ pub record AllPut (n : ℕ) (C P : Graph) : Type 0 where
 
 -- after every history of a run on closed pairs, the square holds entries only where there are places; and once every
 -- coupling and diagonal was put and every pivot made, each place holds one
-abbrev pub Run-is-whole : {E : Type 0} → Kind E → Type 0
-Run-is-whole {E} K = (F : Graph) (n : ℕ) (xs : List ℕ) (stage : Stage) (k : ℕ) (sq : Square E) (P : Graph) → Closed F n → RunHistory K F n xs stage k sq P
+abbrev pub Runs-fill-exactly-the-places : {E : Type 0} → Kind E → Type 0
+Runs-fill-exactly-the-places {E} K = (F : Graph) (n : ℕ) (xs : List ℕ) (stage : Stage) (k : ℕ) (sq : Square E) (P : Graph) → Closed F n → RunHistory K F n xs stage k sq P
     → ((i j : ℕ) → isSome (sq i j) ≡ true → isSome (cell F n i j) ≡ true)
     × ((C : Graph) → Grounded F n C → AllPut n C P → k ≡ n → (i j : ℕ) → isSome (cell F n i j) ≡ true → isSome (sq i j) ≡ true)

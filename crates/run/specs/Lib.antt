@@ -4,3 +4,4 @@ pub mod Tables
 pub mod Parts
 pub mod Outcomes
 pub mod Histories
+pub mod Views

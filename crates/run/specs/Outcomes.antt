@@ -1,4 +1,4 @@
--- What each call of a run answers, what it leaves in the tables, and how it carries a history on.
+-- What each call of a run answers, and what it leaves in the square and in the tables.
 use mathlib.Core.Bool.{Bool, true, false, cond, _||_}
 use mathlib.Core.List.{List}
 use Prim.Native.Nat.{ℕ, max}
@@ -16,12 +16,17 @@ use Rattle.run.specs.declared.states.Step.{Step}
 use Rattle.run.specs.declared.states.Step.the-variants.{Made, Finished}
 use Rattle.run.specs.Kinds.{Kind}
 use Rattle.run.specs.Square.{Square, pivot, pivotal, single, withEntry}
-use Rattle.run.specs.Tables.{squareOf, entryOf, entriesOver, marksOver}
-use Rattle.run.specs.Histories.{Stage, RunHistory, Agrees, rowOf, columnOf}
+use Rattle.run.specs.Tables.{squareOf, entryOf, zeroed, entriesOver, marksOver}
+use Rattle.run.specs.Histories.{rowOf, columnOf}
 
 -- an answer, if both tables are as long as the reserve, else the refusal 17
 abbrev pub roomy : {X : Type 0} → ℕ → ℕ → ℕ → Result X Fault → Result X Fault
 roomy need entries marks answer = cond (ltb entries need || ltb marks need) (Err (at 17 need)) answer
+
+-- the marks after a start: zeroed over the reserve's places unless it was refused
+abbrev pub cleared : {X : Type 0} → Result X Fault → ℕ → List ℕ → List ℕ
+cleared (Ok x) need ms = zeroed need ms
+cleared (Err f) need ms = ms
 
 -- two stations without a place are refused by 18
 abbrev pub placed : ℕ → ℕ → Option ℕ → Result (Unit {0}) Fault
@@ -76,9 +81,3 @@ stepEntries K F n made r es ms = cond (isMade r) (entriesOver F n (pivot K made 
 
 abbrev pub stepMarks : {E : Type 0} → Kind E → Graph → ℕ → ℕ → Result Step Fault → List E → List ℕ → List ℕ
 stepMarks K F n made r es ms = cond (isMade r) (marksOver F n (pivot K made (squareOf F n es ms)) ms) ms
-
--- every history of the state before, with tables that agree with its square, goes on to one of the state after, with
--- tables that agree: the square becomes f of it, and what was put h of it
-abbrev pub Goes-on : {E : Type 0} → Kind E → Graph → ℕ → List ℕ → Stage → ℕ → List E → List ℕ → ℕ → List E → List ℕ → (Square E → Square E) → (Graph → Graph) → Type 0
-Goes-on {E} K F n xs stage k es ms k' es' ms' f h = (sq : Square E) (P : Graph) → RunHistory K F n xs stage k sq P → Agrees F n es ms sq
-    → RunHistory K F n xs stage k' (f sq) (h P) × Agrees F n es' ms' (f sq)

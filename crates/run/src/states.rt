@@ -1,5 +1,15 @@
-//! The states of a run: loading, running, ended. Each holds its reserve, which cannot be frozen into meanwhile.
+//! The states of a run: loading, running, ended. Each holds its reserve, into which nothing can be frozen meanwhile.
 //! A state is not copied, so that begin and finish end the state before.
+ghost use denote.Ref.{now};
+ghost use Prim.Native.Nat.{_≤_};
+use plan::Reserve;
+use std::marker::PhantomData;
+
+mod answers;
+mod load;
+mod pivoting;
+
+pub use load::start;
 
 /// What a step did.
 #[derive(Clone, Copy, PartialEq, Eq, Debug, Drop)]
@@ -8,4 +18,28 @@ pub enum Step {
     Made,
     /// Every pivot had been made before.
     Finished,
+}
+
+/// A run that takes entries.
+#[derive(Drop)]
+pub struct Loading<'r, E> {
+    reserve: &'r Reserve,
+    kind: PhantomData<E>,
+}
+
+/// A run that makes pivots.
+#[derive(Drop)]
+pub struct Running<'r, E> {
+    reserve: &'r Reserve,
+    made: u16,
+    kind: PhantomData<E>,
+    ghost some: { made ≤ now reserve .order .size },
+}
+
+/// A run that answers entries.
+#[derive(Drop)]
+pub struct Ended<'r, E> {
+    reserve: &'r Reserve,
+    made: u16,
+    kind: PhantomData<E>,
 }
