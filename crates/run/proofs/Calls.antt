@@ -23,7 +23,8 @@ use Rattle.run.specs.Kinds.{Kind}
 use Rattle.run.specs.Square.{Square, pivot, pivotal, single, withEntry, beyond}
 use Rattle.run.specs.Tables.{squareOf, entryAt, Room, Within}
 use Rattle.run.specs.Parts.{Pivoted}
-use Rattle.run.specs.Outcomes.{roomy, putOutcome}
+use Rattle.run.specs.Outcomes.{roomy, putOutcome, stepOutcome}
+use Rattle.run.specs.Laws.{Answers-are-those-of-the-square}
 use Rattle.run.specs.Histories.{Stage, RunHistory, Agrees, rowOf, columnOf}
 use Rattle.run.specs.Histories.Stage.{loading, running}
 use Rattle.run.specs.Histories.RunHistory.{put, stepped}
@@ -115,3 +116,14 @@ roomy-ok need entries marks r he hm = simp (le-ltb entries need he, le-ltb marks
 -- a put of two known stations that have a place
 pub put-ok : (F : Graph) (n : ℕ) (xs : List ℕ) (entries marks a b p : ℕ) → a < n → b < n → places F n ≤ entries → places F n ≤ marks → placeOfStations F n xs a b ≡ Some p → putOutcome F n xs entries marks a b ≡ Ok tt
 put-ok F n xs entries marks a b p la lb he hm here = simp (lt-ltb a n la, lt-ltb b n lb, le-ltb entries (places F n) he, le-ltb marks (places F n) hm, here)
+
+-- what entry answers and step decides, by the square
+pub by-square : {E : Type 0} (K : Kind E) → Answers-are-those-of-the-square K
+unfolding squareOf placeOf
+by-square {E} K F n xs stage k sq P es ms closed h agrees = (
+  λ a b. ap (λ (o : Option E). known n a (known n b (roomy (places F n) (length es) (length ms) (Ok o)))) (same (rowOf xs a b) (columnOf xs a b)),
+  λ made. ap (λ (o : Option E). stepOutcome K (places F n) (length es) (length ms) n made o) (same made made),
+)
+  where
+    same : (i j : ℕ) → squareOf F n es ms i j ≡ sq i j
+    same = square-agrees F n es ms sq (only-places K F n xs stage k sq P closed h) agrees

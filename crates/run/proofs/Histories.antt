@@ -20,7 +20,8 @@ use Rattle.plan.proofs.Numbering.{cell-some, cell-below, column-le}
 use Rattle.run.specs.Kinds.{Kind}
 use Rattle.run.specs.Square.{Square, empty, met, part, pivot, pivotal, single, withEntry, beyond}
 use Rattle.run.specs.Tables.{squareOf, entryAt, Room, zeroed}
-use Rattle.run.specs.Histories.{Stage, RunHistory, AllPut, Runs-fill-exactly-the-places, Agrees, rowOf, columnOf}
+use Rattle.run.specs.Histories.{Stage, RunHistory, rowOf, columnOf}
+use Rattle.run.specs.Laws.{AllPut, Runs-fill-exactly-the-places}
 use Rattle.run.specs.Histories.Stage.{loading, running, ended}
 use Rattle.run.specs.Histories.RunHistory.{started, put, put-first-unknown, put-second-unknown, put-short, put-without-place, begun, stepped, step-finished, step-short, step-unusable, finished, asked, asked-first-unknown, asked-second-unknown, asked-short}
 use Rattle.run.proofs.Parts.{part-on, part-off, part-like, closed-cell, set-square}

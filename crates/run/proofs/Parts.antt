@@ -71,17 +71,6 @@ met-no-right K o (Some l) None r e = refl
 met-no-right K o (Some l) (Some p) None e = refl
 met-no-right K o (Some l) (Some p) (Some r) e = let z : _≡_ {A = ℕ} 0 1 = cc in absurd (omega arith)
 
--- a part whose places lack left or right changes nothing
-pub part-idle : {E : Type 0} (K : Kind E) (k : ℕ) (D : ℕ → ℕ → Bool) (S : Square E)
-    → ((a b : ℕ) → D a b ≡ true → (S a k ≡ None) ⊎ (S b k ≡ None)) → (a b : ℕ) → S a b ≡ part K k D S a b
-part-idle K k D S idle a b = elim (cases-bool (D a b)) [
-  | inl t ↦ ⊎-elim
-      (λ (e : S a k ≡ None). sym (part-on K k D S a b t ∙ met-no-left K (S a b) (S a k) (S k k) (S b k) e))
-      (λ (e : S b k ≡ None). sym (part-on K k D S a b t ∙ met-no-right K (S a b) (S a k) (S k k) (S b k) e))
-      (idle a b t)
-  | inr f ↦ sym (part-off K k D S a b f)
-]
-
 -- a write
 pub nth-set-same : {E : Type 0} (xs : List E) (i : ℕ) (v : E) → i < length xs → nth (set xs i v) i ≡ Some v
 nth-set-same xs i v h = nth-getD (set xs i v) i v (rw length-set h) ∙ ap (λ x. Some x) (getD-set-same xs i v v h)
@@ -189,10 +178,6 @@ square-some F n i j es ms p h = ap (entryOf es ms) h
 pub square-none : {E : Type 0} (F : Graph) (n i j : ℕ) (es : List E) (ms : List ℕ) → cell F n i j ≡ None → squareOf F n es ms i j ≡ None
 unfolding squareOf
 square-none F n i j es ms h = ap (entryOf es ms) h
-
-pub place-below : (F : Graph) (n i j p : ℕ) → placeOf F n i j ≡ Some p → p < places F n
-unfolding placeOf
-place-below F n i j p h = cell-below F n (max i j) (min i j) p h
 
 pub nth-some : {E : Type 0} (xs : List E) (i : ℕ) → i < length xs → (x : E) × (nth xs i ≡ Some x)
 nth-some [] i h = absurd (omega arith)

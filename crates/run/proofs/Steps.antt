@@ -200,10 +200,7 @@ module _ {E : Type 0} (K : Kind E) (F : Graph) (n k : ℕ) where
       let y : None ≡ Some (x .0) = sym none ∙ x .1 in
       let z : _≡_ {A = ℕ} 0 1 = cc in omega arith
 
-  -- the room, and what the column k holds, over a part that leaves it alone
-  pub room-kept : (len : ℕ) (es : List E) (ms : List ℕ) (es' : List E) (ms' : List ℕ) → Room F n es ms → Kept len es ms es' ms' → Room F n es' ms'
-  room-kept len es ms es' ms' r h = (omega (arith, r .0, h .entries), omega (arith, r .1, h .table))
-
+  -- a part leaves the column k alone
   pub row-away : (j i : ℕ) (es : List E) (ms : List ℕ) (es' : List E) (ms' : List ℕ) → k < j → Pivoted K F n k (inOne j i) es ms es' ms' → (a : ℕ) → squareOf F n es' ms' a k ≡ squareOf F n es ms a k
   row-away j i es ms es' ms' kj h a = away (inOne j i) es ms es' ms' h a k (grind (arith, tells))
 

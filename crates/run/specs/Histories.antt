@@ -11,9 +11,8 @@ use Rattle.std.specs.declared.option.Option.{Option}
 use Rattle.std.specs.declared.option.Option.the-variants.{Some, None}
 use Rattle.elimination.specs.Graphs.{Graph}
 use Rattle.elimination.specs.Orders.{positionOf}
-use Rattle.plan.specs.Layout.{cell, places, Closed}
+use Rattle.plan.specs.Layout.{cell, places}
 use Rattle.plan.specs.Reserves.{placeOfStations}
-use Rattle.plan.specs.ReserveLaws.{Grounded}
 use Rattle.run.specs.Kinds.{Kind}
 use Rattle.run.specs.Square.{Square, empty, pivot, pivotal, single, withEntry}
 
@@ -71,15 +70,3 @@ pub record Agrees {E : Type 0} (F : Graph) (n : ℕ) (es : List E) (ms : List �
   pub unmarked : (i j p : ℕ) → cell F n i j ≡ Some p → getD ms p 0 ≡ 0 → sq i j ≡ None
   pub marked : (i j p : ℕ) → cell F n i j ≡ Some p → sq i j ≡ None → getD ms p 0 ≡ 0
   pub same : (i j p : ℕ) (e : E) → cell F n i j ≡ Some p → sq i j ≡ Some e → nth es p ≡ Some e
-
--- every diagonal place and every coupling was put
-pub record AllPut (n : ℕ) (C P : Graph) : Type 0 where
-  pub diagonals : (i : ℕ) → i < n → P i i ≡ true
-  pub couplings : (i j : ℕ) → i < n → j < i → C i j ≡ true → P i j ≡ true
-
--- after every history of a run on closed pairs, the square holds entries only where there are places; and once every
--- coupling and diagonal was put and every pivot made, each place holds one
-abbrev pub Runs-fill-exactly-the-places : {E : Type 0} → Kind E → Type 0
-Runs-fill-exactly-the-places {E} K = (F : Graph) (n : ℕ) (xs : List ℕ) (stage : Stage) (k : ℕ) (sq : Square E) (P : Graph) → Closed F n → RunHistory K F n xs stage k sq P
-    → ((i j : ℕ) → isSome (sq i j) ≡ true → isSome (cell F n i j) ≡ true)
-    × ((C : Graph) → Grounded F n C → AllPut n C P → k ≡ n → (i j : ℕ) → isSome (cell F n i j) ≡ true → isSome (sq i j) ≡ true)

@@ -5,3 +5,4 @@ pub mod Parts
 pub mod Outcomes
 pub mod Histories
 pub mod Views
+pub mod Laws

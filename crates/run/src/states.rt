@@ -1,6 +1,7 @@
 //! The states of a run: loading, running, ended. Each holds its reserve, into which nothing can be frozen meanwhile.
 //! A state is not copied, so that begin and finish end the state before.
 ghost use denote.Ref.{now};
+ghost use mathlib.Core.Path.{_≡_};
 ghost use Prim.Native.Nat.{_≤_};
 use plan::Reserve;
 use std::marker::PhantomData;
@@ -40,6 +41,15 @@ pub struct Running<'r, E> {
 #[derive(Drop)]
 pub struct Ended<'r, E> {
     reserve: &'r Reserve,
-    made: u16,
+    pivots: u16,
     kind: PhantomData<E>,
+}
+
+impl<E> Running<'_, E> {
+    /// How many pivots were made.
+    pub fn made(&self) -> u16
+        ensures { λ r. ⌜ r ≡ now (self .entry) .made ⌝ }
+    {
+        self.made
+    }
 }

@@ -45,18 +45,11 @@ impl<'r, E: Entry> Running<'r, E> {
         Ok(Step::Made)
     }
 
-    /// How many pivots were made.
-    pub fn made(&self) -> u16
-        ensures { λ r. ⌜ r ≡ now (self .entry) .made ⌝ }
-    {
-        self.made
-    }
-
     /// Ends the run, with the number of pivots made.
     pub fn finish(self) -> Ended<'r, E>
         ensures reserve { λ r. ⌜ now (r .reserve) ≡ now (self .entry .reserve) ⌝ }
-        ensures made { λ r. ⌜ r .made ≡ self .entry .made ⌝ }
-        ensures history { λ r. ⌜ Turns (kind (E·Entry .usable) (E·Entry .first) (E·Entry .more)) (now (self .entry .reserve)) running (self .entry .made) ended (r .made) ⌝ }
+        ensures pivots { λ r. ⌜ r .pivots ≡ self .entry .made ⌝ }
+        ensures history { λ r. ⌜ Turns (kind (E·Entry .usable) (E·Entry .first) (E·Entry .more)) (now (self .entry .reserve)) running (self .entry .made) ended (r .pivots) ⌝ }
     {
         let Running {
             reserve,
@@ -65,7 +58,7 @@ impl<'r, E: Entry> Running<'r, E> {
         } = self;
         Ended {
             reserve,
-            made,
+            pivots: made,
             kind,
         }
     }

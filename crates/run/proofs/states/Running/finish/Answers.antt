@@ -3,4 +3,4 @@ use Rattle.run.specs.Histories.RunHistory.{finished}
 use Rattle.run.proofs.states.Running.finish.Needs as need
 
 pub returns : need.returns
-returns g c = record { reserve = refl; made = refl; history = λ sq put h. finished h }
+returns g c = record { reserve = refl; pivots = refl; history = λ sq put h. finished h }
