@@ -1,8 +1,7 @@
 -- Kinds of entry: what a pivot needs of one, and the two kinds that are delivered.
-use mathlib.Core.Bool.{Bool, _&&_}
-use Prim.Native.Nat.{ℕ, _+_, _-_, _^_, min}
+use mathlib.Core.Bool.{Bool, false, _&&_}
+use Prim.Native.Nat.{ℕ, _+_, min}
 use lib.Ieee.{Float, binary64, ofBits, inf, neg, sub, mul, div, lt}
-use mathlib.Core.Bool.{false}
 
 -- whether an entry may be a pivot; what a place takes from left, pivot and right if it is empty; and what it takes
 -- from old, left, pivot and right if it holds old

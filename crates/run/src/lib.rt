@@ -15,4 +15,7 @@ pub use states::Ended;
 pub use states::Loading;
 pub use states::Running;
 pub use states::Step;
+pub use states::StepDebug;
+pub use states::StepEq;
+pub use states::StepPartialEq;
 pub use states::start;

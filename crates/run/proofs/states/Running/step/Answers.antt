@@ -3,7 +3,10 @@ use mathlib.Core.Bool.{true, false}
 use mathlib.Core.Logic.{_≢_}
 use Prim.Native.Nat.{_<_}
 use native.Mathlib.Omega.{arith}
+use lib.ListN.{length}
+use Rattle.std.specs.declared.option.Option.the-variants.{Some}
 use Rattle.std.proofs.shelf.Tests.{ne-eqb}
+use Rattle.plan.specs.Layout.{places}
 use Rattle.plan.specs.ReserveView.{filledIn, orderIn, sizeIn}
 use Rattle.run.specs.Kinds.{kind}
 use Rattle.run.specs.Square.{pivot, pivotal}
@@ -25,11 +28,13 @@ returns g c =
     let room : Room F n es ms = (omega (arith, long .0), omega (arith, long .1)) in
     let lt : k < n = omega (arith, c .args .self .now .some) in
     let left : k ≢ n = omega arith in
-    let usable : pivotal K (squareOf F n es ms k k) ≡ true = sym (ap (pivotal K) (c .in-Some .ensures tt)) ∙ sym (c .is-usable .ensures) ∙ c .if-not-is-usable .left in
+    let held : Some (c .in-Some .pivot) ≡ squareOf F n es ms k k = c .in-Some .ensures tt in
+    let fit : pivotal K (Some (c .in-Some .pivot)) ≡ true = sym (c .is-usable .ensures) ∙ c .if-not-is-usable .left in
+    let usable : pivotal K (squareOf F n es ms k k) ≡ true = sym (ap (pivotal K) held) ∙ fit in
     let pivoted = c .eliminate .ensures in
     record {
       reserve = refl;
-      value = sym (roomy-ok _ _ _ _ (room .0) (room .1) ∙ simp (ne-eqb k n left, usable));
+      value = sym (roomy-ok (places F n) (length es) (length ms) _ (room .0) (room .1) ∙ simp (ne-eqb k n left, usable));
       made = refl;
       entries = entries-written F n (pivot K k (squareOf F n es ms)) es ms _ _ room (pivoted .kept) (pivoted .square);
       marks = marks-written F n (pivot K k (squareOf F n es ms)) es ms _ _ room (pivoted .kept) (pivoted .square);
