@@ -13,3 +13,7 @@ pub mod Walks
 pub mod Listing
 pub mod Leaving
 pub mod Afterwards
+pub mod Drops
+pub mod Peel
+pub mod Tightening
+pub mod Arrangements

@@ -67,7 +67,7 @@ position-of (x ∷ xs) (suc k) d h =
 -- ---- lengths
 
 -- a list without one that it lacks
-kept-same : (y : ℕ) (xs : List ℕ) → (In y xs → ⊥) → kept-by (but y) xs ≡ xs
+pub kept-same : (y : ℕ) (xs : List ℕ) → (In y xs → ⊥) → kept-by (but y) xs ≡ xs
 kept-same y [] f = refl
 kept-same y (x ∷ xs) f = let e = but-other y x (λ q. f (inl (sym q))) in simp e (ap (λ (zs : List ℕ). x ∷ zs) (kept-same y xs (λ i. f (inr i))))
 
@@ -119,16 +119,22 @@ full n xs d f e a h = ⊎-elim (λ (t : member a xs ≡ true). in-member a xs t)
         let m = at-most n (a ∷ xs) ((λ i. both-ways (member a xs) t (member-in a xs i)), d) (λ b i. ⊎-elim (λ (q : b ≡ a). rw q h) (λ (m : In b xs). f b m) i) in
         omega arith
 
+-- an order without its largest station
+pub order-without : (n : ℕ) (xs : List ℕ) → Order (suc n) xs → Order n (kept-by (but n) xs)
+order-without n xs o =
+    record {
+      once = distinct-kept (but n) xs (o .once);
+      all = λ a h. in-kept (but n) a xs (o .all a (omega arith)) (but-other n a (λ q. omega arith));
+      only = λ a i. (let k = kept-in (but n) a xs i in let m : a ≢ n = but-apart n a (k .1) in let l : a < suc n = o .only a (k .0) in omega arith);
+    }
+
 -- an order of n stations has n members
 pub order-length : (n : ℕ) (xs : List ℕ) → Order n xs → length xs ≡ n
 order-length zero [] o = refl
 order-length zero (x ∷ xs) o = absurd (let f : x < 0 = o .only x (inl refl) in let no : ⊥ = omega arith in no)
 order-length (suc n) xs o =
-    let rest : List ℕ = kept-by (but n) xs in
     let one = kept-one n xs (o .once) (o .all n (omega arith)) in
-    let below : (a : ℕ) → In a rest → a < n = λ a i. (let k = kept-in (but n) a xs i in let m : a ≢ n = but-apart n a (k .1) in let l : a < suc n = o .only a (k .0) in omega arith) in
-    let all : (a : ℕ) → a < n → In a rest = λ a h. in-kept (but n) a xs (o .all a (omega arith)) (but-other n a (λ q. omega arith)) in
-    let ih : length rest ≡ n = order-length n rest (record { once = distinct-kept (but n) xs (o .once); all = all; only = below }) in
+    let ih : length (kept-by (but n) xs) ≡ n = order-length n (kept-by (but n) xs) (order-without n xs o) in
     omega arith
 
 -- ---- the check of orders
@@ -238,3 +244,6 @@ order-of order = fault-order (listed order) (order .size) (none-from (orderFault
 
 pub listed-length : (order : EliminationOrder) → length (listed order) ≡ order .size
 listed-length order = order-length (order .size) (listed order) (order-of order)
+
+pub order-sized : (order : EliminationOrder) (n : ℕ) → order .size ≡ n → Order n (listed order)
+order-sized order n e = subst (λ (m : ℕ). Order m (listed order)) e (order-of order)

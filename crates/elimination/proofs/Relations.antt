@@ -120,12 +120,11 @@ upTo-in (suc n) a i =
 
 -- ---- spare pairs
 
-module _ (n : ℕ) (G : Graph) (s : Simple n G) (u v : ℕ) where
-  pub spare-from : spare n G u v ≡ true → SpareIn G u v
-  unfolding spare
-  spare-from e a ua va b ne ub vb =
-      clique-from G (λ a. G u a && G v a) (upTo n) e a b (in-upTo n a (s .below u a ua .1)) (in-upTo n b (s .below u b ub .1)) ne
-      (and-from (G u a) (G v a) ua va) (and-from (G u b) (G v b) ub vb)
+pub spare-from : (n : ℕ) (G : Graph) (u v : ℕ) → ((a b : ℕ) → G a b ≡ true → (a < n) × (b < n)) → spare n G u v ≡ true → SpareIn G u v
+unfolding spare
+spare-from n G u v below e a ua va b ne ub vb =
+    clique-from G (λ a. G u a && G v a) (upTo n) e a b (in-upTo n a (below u a ua .1)) (in-upTo n b (below u b ub .1)) ne
+    (and-from (G u a) (G v a) ua va) (and-from (G u b) (G v b) ub vb)
 
 pub spare-to : (n : ℕ) (G : Graph) (u v : ℕ) → SpareIn G u v → spare n G u v ≡ true
 unfolding spare

@@ -65,7 +65,7 @@ pub fill-sub : (C : Graph) (xs ys : List ℕ) → Sub (filled C ys) (filled C xs
 fill-sub C xs ys s a b h = let t = fill-parts C ys a b h in fill-from C xs a b (s a b (t .0)) (t .1)
 
 -- a pair that is in one fill and not in the other
-lacks : (C : Graph) (ys : List ℕ) (a b : ℕ) → fill C ys a b ≡ false → C a b ≡ false → filled C ys a b ≡ false
+pub lacks : (C : Graph) (ys : List ℕ) (a b : ℕ) → fill C ys a b ≡ false → C a b ≡ false → filled C ys a b ≡ false
 lacks C ys a b g c = ⊎-elim (λ (h : filled C ys a b ≡ true). absurd (both-ways (fill C ys a b) g (fill-from C ys a b h c))) (λ (h : filled C ys a b ≡ false). h) (cases-bool (filled C ys a b))
 
 not-fill : (C : Graph) (ys : List ℕ) (a b : ℕ) → filled C ys a b ≡ false → fill C ys a b ≡ false
@@ -121,7 +121,7 @@ spare-pairs-can-go n H s p u v h e =
     let xs = p .0 in
     let o = p .1 in
     let l = s .below u v h in
-    let f = spare-from n H s u v e in
+    let f = spare-from n H u v (s .below) e in
     let t = removal H (s .symmetric) (s .irreflexive) u v h xs (closed-from H xs (p .2)) (o .once) (λ a b _ _ ne ua va ub vb. f a ua va b ne ub vb) (o .all u (l .0)) (o .all v (l .1)) in
     (t .0, record { once = t .2; all = λ a k. t .3 a (o .all a k); only = λ a j. o .only a (t .4 a j) }, closed-to (without H u v) (t .0) (t .1))
 

@@ -5,3 +5,6 @@ pub mod Theorems
 pub mod Words
 pub mod Kept
 pub mod View
+pub mod Dropping
+pub mod AllOrders
+pub mod Examples

@@ -6,6 +6,7 @@ use Prim.Native.Nat.{ℕ, _<_, _≤_}
 use Rattle.std.specs.declared.option.Option.the-variants.{Some, None}
 use Rattle.network.specs.Net.{Net, Lawful}
 use Rattle.network.specs.Orders.{orderFault}
+use Rattle.elimination.specs.AllOrders.{Listed, minimal, orders}
 use Rattle.elimination.specs.Graphs.{Graph, Simple, Sub, ProperPart, complete, simplicial, closed, spare, without}
 use Rattle.elimination.specs.Orders.{In, Order, upTo, lastOf}
 use Rattle.elimination.specs.Elimination.{filled, fill, Joined, Minimal}
@@ -13,6 +14,15 @@ use Rattle.elimination.specs.Elimination.{filled, fill, Joined, Minimal}
 -- a list names each of at most 512 stations once exactly if the check of orders tells no fault
 abbrev pub Orders-have-no-fault : Type 0
 Orders-have-no-fault = (n : ℕ) (xs : List ℕ) → n ≤ 512 → (Order n xs → orderFault xs n ≡ None) × (orderFault xs n ≡ None → Order n xs)
+
+-- the list of all orders has exactly the orders
+abbrev pub Orders-are-listed : Type 0
+Orders-are-listed = (n : ℕ) (xs : List ℕ) → (Order n xs → Listed xs (orders n)) × (Listed xs (orders n) → Order n xs)
+
+-- the test over all orders finds exactly the minimal ones
+abbrev pub Minimal-by-test : Type 0
+Minimal-by-test = (n : ℕ) (C : Graph) (xs : List ℕ) → Simple n C → Order n xs
+    → (minimal n C xs ≡ true → Minimal n C xs) × (Minimal n C xs → minimal n C xs ≡ true)
 
 -- every lawful network and every order of its stations
 abbrev pub ForEveryOrder : (Net → List ℕ → Type 0) → Type 0

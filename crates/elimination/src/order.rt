@@ -5,6 +5,8 @@ ghost use Rattle.elimination.specs.Kept.{Found, Named, Placed};
 
 mod calls;
 
+pub(crate) use calls::settled;
+
 /// An order in which stations leave.
 #[derive(Drop)]
 pub struct EliminationOrder {

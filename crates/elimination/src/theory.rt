@@ -1,10 +1,24 @@
 //! The theory of elimination: each theorem is the contract of a function, so that nothing here stands without its proof.
 //! The statements are those of specs/Theorems.antt; each function answers 0.
-ghost use Rattle.elimination.specs.Theorems.{Any-station-last, End-vertex, Filled-by-paths, Filled-is-the-least-closed, Less-fill-leaves-a-spare-pair, Orders-have-no-fault, Perfect-fills-within, Seats-without-new-fill, Spare-pairs-can-go, Without-spare-fill-minimal};
+ghost use Rattle.elimination.specs.Theorems.{Any-station-last, End-vertex, Filled-by-paths, Filled-is-the-least-closed, Less-fill-leaves-a-spare-pair, Minimal-by-test, Orders-are-listed, Orders-have-no-fault, Perfect-fills-within, Seats-without-new-fill, Spare-pairs-can-go, Without-spare-fill-minimal};
 
 /// The check of orders tells no fault exactly of lists that name each station once.
 pub fn orders_have_no_fault() -> u8
     ensures { λ _. ⌜ Orders-have-no-fault ⌝ }
+{
+    0
+}
+
+/// The list of all orders has exactly the orders.
+pub fn orders_are_listed() -> u8
+    ensures { λ _. ⌜ Orders-are-listed ⌝ }
+{
+    0
+}
+
+/// The test over all orders finds exactly the minimal ones.
+pub fn minimal_by_test() -> u8
+    ensures { λ _. ⌜ Minimal-by-test ⌝ }
 {
     0
 }
