@@ -1,0 +1,5 @@
+pub mod Numbering
+pub mod Columns
+pub mod Grounds
+pub mod Positions
+pub mod StationPlaces

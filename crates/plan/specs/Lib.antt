@@ -1,0 +1,5 @@
+pub mod Layout
+pub mod OrderLists
+pub mod Reserves
+pub mod ReserveView
+pub mod ReserveLaws
