@@ -3,3 +3,7 @@ pub mod OrderLists
 pub mod Reserves
 pub mod ReserveView
 pub mod ReserveLaws
+pub mod Plans
+pub mod PlanStates
+pub mod PlanView
+pub mod PlanLaws
