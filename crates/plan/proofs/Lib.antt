@@ -6,3 +6,4 @@ pub mod StationPlaces
 pub mod Couplings
 pub mod Histories
 pub mod Plans
+pub mod Replays

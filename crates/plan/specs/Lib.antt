@@ -7,3 +7,4 @@ pub mod Plans
 pub mod PlanStates
 pub mod PlanView
 pub mod PlanLaws
+pub mod PlanCalls

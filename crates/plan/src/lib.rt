@@ -6,6 +6,8 @@ mod reserve;
 
 pub use plan::Plan;
 pub use plan::laws::fill_within_given_and_least_once_tightened;
+pub use plan::plan_call::PlanCall;
+pub use plan::replay::replay_plan;
 pub use reserve::Reserve;
 pub use reserve::laws::filled_pairs_are_grounded;
 pub use reserve::laws::filled_places_are_closed;

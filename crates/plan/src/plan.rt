@@ -10,7 +10,9 @@ use elimination::PairSet;
 mod calls;
 mod couplings;
 pub(crate) mod laws;
+pub(crate) mod plan_call;
 mod questions;
+pub(crate) mod replay;
 
 /// The couplings of one network, an order of its stations, and how many calls were refused.
 #[derive(Drop)]
