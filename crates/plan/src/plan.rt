@@ -7,6 +7,7 @@ ghost use Rattle.plan.specs.Reserves.{Below, Irreflexive, Symmetric};
 use elimination::EliminationOrder;
 use elimination::PairSet;
 
+mod answers;
 mod calls;
 mod couplings;
 pub(crate) mod laws;

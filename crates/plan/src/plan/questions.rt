@@ -13,9 +13,9 @@ ghost use Rattle.plan.specs.PlanStates.Question.{count-of, is-filled, parent-o
 ghost use Rattle.plan.specs.PlanView.{view};
 ghost use Rattle.plan.specs.Reserves.{known};
 use super::Plan;
+use crate::orders::position_in;
+use crate::orders::station_in;
 use crate::orders::write_order;
-use elimination::count_of;
-use elimination::parent_of;
 use elimination::total_of;
 use network::Refusal;
 
@@ -25,10 +25,7 @@ impl Plan {
         ensures value { λ r. ⌜ outcome r ≡ known (view (now (self .entry)) .net .size) station (Ok (positionOf (view (now (self .entry)) .order) station)) ⌝ }
         ensures history { λ _. ⌜ Asks (position-of station) (view (now (self .entry))) ⌝ }
     {
-        if station >= self.order.size() {
-            return Err(Refusal::OutOfRange(station));
-        }
-        Ok(self.order.position(station))
+        position_in(&self.order, station)
     }
 
     /// The station at a position.
@@ -36,10 +33,7 @@ impl Plan {
         ensures value { λ r. ⌜ outcome r ≡ known (view (now (self .entry)) .net .size) position (Ok (getD (view (now (self .entry)) .order) position 0)) ⌝ }
         ensures history { λ _. ⌜ Asks (station-at position) (view (now (self .entry))) ⌝ }
     {
-        if position >= self.order.size() {
-            return Err(Refusal::OutOfRange(position));
-        }
-        Ok(self.order.station(position))
+        station_in(&self.order, position)
     }
 
     /// The parent of a station in the elimination tree; the last station has none. It looks at each later station at most once.
@@ -47,25 +41,16 @@ impl Plan {
         ensures value { λ r. ⌜ outcome r ≡ known (view (now (self .entry)) .net .size) station (Ok (elimination.parent (view (now (self .entry)) .net .coupled) (view (now (self .entry)) .order) station)) ⌝ }
         ensures history { λ _. ⌜ Asks (parent-of station) (view (now (self .entry))) ⌝ }
     {
-        if station >= self.order.size() {
-            return Err(Refusal::OutOfRange(station));
-        }
-        Ok(parent_of(&self.couplings, &self.pairs, &self.order, station))
+        self.parent_of(station)
     }
 
     /// Whether two stations form a filled pair; no station forms one with itself.
     pub fn filled(&self, a: u16, b: u16) -> Result<bool, Refusal>
         ensures value { λ r. ⌜ outcome r ≡ known (view (now (self .entry)) .net .size) a (known (view (now (self .entry)) .net .size) b (Ok (elimination.filled (view (now (self .entry)) .net .coupled) (view (now (self .entry)) .order) a b))) ⌝ }
-        ensures same { λ r. ⌜ (a ≡ b → made r (λ yes. yes ≡ false)) ⌝ }
+        ensures same { λ r. ⌜ (a ≡ b → made r (λ paired. paired ≡ false)) ⌝ }
         ensures history { λ _. ⌜ Asks (is-filled a b) (view (now (self .entry))) ⌝ }
     {
-        if a >= self.order.size() {
-            return Err(Refusal::OutOfRange(a));
-        }
-        if b >= self.order.size() {
-            return Err(Refusal::OutOfRange(b));
-        }
-        Ok(self.pairs.contains(a as usize, b as usize))
+        self.is_filled(a, b)
     }
 
     /// How many filled pairs a station forms with later stations. It looks at each of those once.
@@ -73,10 +58,7 @@ impl Plan {
         ensures value { λ r. ⌜ outcome r ≡ known (view (now (self .entry)) .net .size) station (Ok (elimination.count (view (now (self .entry)) .net .coupled) (view (now (self .entry)) .order) station)) ⌝ }
         ensures history { λ _. ⌜ Asks (count-of station) (view (now (self .entry))) ⌝ }
     {
-        if station >= self.order.size() {
-            return Err(Refusal::OutOfRange(station));
-        }
-        Ok(count_of(&self.couplings, &self.pairs, &self.order, station))
+        self.count_of(station)
     }
 
     /// How many pairs are in the plan's fill: sixteen word steps for each station.
