@@ -9,7 +9,11 @@ use Rattle.std.proofs.shelf.Tests.{cases-bool}
 use Rattle.std.proofs.shelf.Ways.{tells}
 use Rattle.network.specs.Net.{Net, Lawful}
 use Rattle.elimination.specs.Graphs.{Graph, including, union}
-use Rattle.plan.specs.Plans.{pairsAmong, pairsBelow}
+use Rattle.plan.specs.Plans.{pairsBelow}
+
+-- the pairs of G of two stations below n
+abbrev pub pairsAmong : Graph → ℕ → Graph
+pairsAmong G n x y = G x y && (ltb x n && ltb y n)
 
 module _ (E K : Graph) (a : ℕ) where
   pub below-none : E ≡ union E (pairsBelow K a 0)

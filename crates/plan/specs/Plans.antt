@@ -14,7 +14,3 @@ FilledPairs pairs couplings order = (a b : ℕ) → pairs a b ≡ filled couplin
 -- the pairs of G that a forms with stations below b
 abbrev pub pairsBelow : Graph → ℕ → ℕ → Graph
 pairsBelow G a b x y = G x y && ((eqb x a && ltb y b) || (eqb y a && ltb x b))
-
--- the pairs of G of two stations below n
-abbrev pub pairsAmong : Graph → ℕ → Graph
-pairsAmong G n x y = G x y && (ltb x n && ltb y n)

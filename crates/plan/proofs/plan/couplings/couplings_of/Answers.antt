@@ -3,8 +3,8 @@ use Prim.Native.Nat.{ℕ}
 use native.Mathlib.Omega.{arith}
 use Rattle.elimination.specs.Graphs.{Graph, union}
 use Rattle.elimination.specs.View.{graph}
-use Rattle.plan.specs.Plans.{pairsAmong, pairsBelow}
-use Rattle.plan.proofs.Couplings.{among-all, among-more, among-none}
+use Rattle.plan.specs.Plans.{pairsBelow}
+use Rattle.plan.proofs.Couplings.{among-all, among-more, among-none, pairsAmong}
 use Rattle.plan.proofs.plan.couplings.couplings_of.Needs as need
 
 pub loop-a-holds : need.loop-a-holds

@@ -1,6 +1,6 @@
 use mathlib.Core.Path.{_≡_}
 use Rattle.elimination.specs.View.{graph}
-use Rattle.plan.specs.Plans.{pairsAmong}
+use Rattle.plan.proofs.Couplings.{pairsAmong}
 use Rattle.plan.proofs.plan.couplings.couplings_of.Given as given
 
 abbrev pub Inv-loop-a : given.InvT-loop-a
