@@ -3,3 +3,7 @@ pub mod Columns
 pub mod Grounds
 pub mod Positions
 pub mod StationPlaces
+pub mod Couplings
+pub mod Histories
+pub mod Plans
+pub mod Replays

@@ -3,3 +3,8 @@ pub mod OrderLists
 pub mod Reserves
 pub mod ReserveView
 pub mod ReserveLaws
+pub mod Plans
+pub mod PlanStates
+pub mod PlanView
+pub mod PlanLaws
+pub mod PlanCalls

@@ -1,8 +1,13 @@
 //! The plan of one network: its couplings, an order, and the filled pairs of that order;
 //! and the reserve of places that is only ever frozen from a plan.
 mod orders;
+mod plan;
 mod reserve;
 
+pub use plan::Plan;
+pub use plan::laws::fill_within_given_and_least_once_tightened;
+pub use plan::plan_call::PlanCall;
+pub use plan::replay::replay_plan;
 pub use reserve::Reserve;
 pub use reserve::laws::filled_pairs_are_grounded;
 pub use reserve::laws::filled_places_are_closed;

@@ -124,6 +124,20 @@ impl EliminationOrder {
         settled(size, rising_places(size))
     }
 
+    /// The same order.
+    pub fn copy(&self) -> EliminationOrder
+        ensures size { λ r. ⌜ r .size ≡ now (self .entry) .size ⌝ }
+        ensures list { λ r. ⌜ listed r ≡ listed (now (self .entry)) ⌝ }
+    {
+        let stations = self.stations;
+        let positions = self.positions;
+        EliminationOrder {
+            size: self.size,
+            stations,
+            positions,
+        }
+    }
+
     /// How many stations the order has.
     pub fn size(&self) -> u16
         ensures { λ r. ⌜ r ≡ now (self .entry) .size ⌝ }

@@ -18,6 +18,8 @@ ghost use Rattle.plan.specs.ReserveView.{filledIn, orderIn, sizeIn};
 use super::Reserve;
 use super::parts::by_positions;
 use super::parts::column_starts;
+use crate::orders::position_in;
+use crate::orders::station_in;
 use crate::orders::write_order;
 use elimination::EliminationOrder;
 use elimination::PairSet;
@@ -111,10 +113,7 @@ impl Reserve {
         ensures there { λ r. ⌜ made r (λ k. getD (orderIn (now (self .entry))) k 0 ≡ station) ⌝ }
         ensures small { λ r. ⌜ made r (λ k. k < sizeIn (now (self .entry))) ⌝ }
     {
-        if station >= self.order.size() {
-            return Err(Refusal::OutOfRange(station));
-        }
-        Ok(self.order.position(station))
+        position_in(&self.order, station)
     }
 
     /// The station at a position.
@@ -122,10 +121,7 @@ impl Reserve {
         ensures value { λ r. ⌜ outcome r ≡ known (sizeIn (now (self .entry))) position (Ok (getD (orderIn (now (self .entry))) position 0)) ⌝ }
         ensures small { λ r. ⌜ made r (λ s. s < sizeIn (now (self .entry))) ⌝ }
     {
-        if position >= self.order.size() {
-            return Err(Refusal::OutOfRange(position));
-        }
-        Ok(self.order.station(position))
+        station_in(&self.order, position)
     }
 
     /// The number of the place of two stations, or none: the same station twice has its diagonal. At most eight word steps.
