@@ -3,3 +3,4 @@ pub mod Columns
 pub mod Grounds
 pub mod Positions
 pub mod StationPlaces
+pub mod Marks

@@ -3,3 +3,4 @@ pub mod OrderLists
 pub mod Reserves
 pub mod ReserveView
 pub mod ReserveLaws
+pub mod Boards

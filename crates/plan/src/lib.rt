@@ -2,6 +2,7 @@
 //! and the reserve of places that is only ever frozen from a plan.
 mod orders;
 mod reserve;
+mod through;
 
 pub use reserve::Reserve;
 pub use reserve::laws::filled_pairs_are_grounded;
