@@ -4,3 +4,5 @@ pub mod Grounds
 pub mod Positions
 pub mod StationPlaces
 pub mod Marks
+pub mod Reaching
+pub mod Searching

@@ -3,7 +3,9 @@
 ghost use mathlib.Core.Path.{_≡_};
 ghost use Prim.Native.Nat.{ℕ, _<_, _≤_};
 ghost use lib.ListN.{getD, length};
+ghost use Rattle.std.specs.Orderings.{Decides};
 ghost use Rattle.network.specs.Laws.{FirstIs};
+ghost use Rattle.elimination.specs.Elimination.{Joined};
 ghost use Rattle.elimination.specs.Graphs.{Simple};
 ghost use Rattle.elimination.specs.View.{graph, listed};
 ghost use Rattle.plan.specs.Boards.{cleared, found, markAfter, taken};
@@ -73,4 +75,37 @@ fn find_neighbours(
         }
         from = k + 1;
     }
+}
+
+/// Whether two stations differ and a path of couplings joins them whose inner stations all come earlier than both.
+/// It looks at the neighbours of each station once, and to find the next station steps over up to n marks.
+pub(crate) fn joined(
+    couplings: &PairSet,
+    order: &EliminationOrder,
+    a: u16,
+    b: u16,
+    board: &mut [u8],
+) -> bool
+    requires one { ⌜ a < now order .size ⌝ }
+    requires two { ⌜ b < now order .size ⌝ }
+    requires room { ⌜ now order .size ≤ length (now board) ⌝ }
+    requires simple { ⌜ Simple (now order .size) (graph (now couplings)) ⌝ }
+    ensures answer { λ r. ⌜ Decides r ((a ≡ b → ⊥) × Joined (graph (now (couplings .entry))) (listed (now (order .entry))) a b) ⌝ }
+    ensures board { λ _. ⌜ now (board .exit) ≡ cleared (now (order .entry) .size) (now (board .entry)) ⌝ }
+{
+    let n = order.size() as usize;
+    let marks = MarkBoard { board, count: n };
+    if a == b {
+        return false;
+    }
+    let position = order.position(a).min(order.position(b));
+    clear(marks.board, n);
+    marks.board[a as usize] = 1;
+    while let Some(station) = take_found(marks.board, n) {
+        if couplings.contains(station, b as usize) {
+            return true;
+        }
+        find_neighbours(couplings, order, position, station, marks.board);
+    }
+    false
 }
