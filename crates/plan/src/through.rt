@@ -12,13 +12,22 @@ ghost use Rattle.plan.specs.Boards.{cleared, found, markAfter, taken};
 use elimination::EliminationOrder;
 use elimination::PairSet;
 
+/// The mark of a station that was not seen.
+const UNSEEN: u8 = 0;
+
+/// The mark of a station that was found.
+const FOUND: u8 = 1;
+
+/// The mark of a station that was found and whose neighbours were looked at.
+const LOOKED: u8 = 2;
+
 /// Zeroes the first `n` bytes: one step for each.
 fn clear(board: &mut [u8], n: usize)
     requires { ⌜ n ≤ length (now board) ⌝ }
     ensures { λ _. ⌜ now (board .exit) ≡ cleared n (now (board .entry)) ⌝ }
 {
     for k in 0..n {
-        board[k] = 0;
+        board[k] = UNSEEN;
     }
 }
 
@@ -46,8 +55,8 @@ fn take_found(board: &mut [u8], n: usize) -> Option<usize>
     ensures marked { λ r. ⌜ now (board .exit) ≡ taken r (now (board .entry)) ⌝ }
 {
     for k in 0..n {
-        if board[k] == 1 {
-            board[k] = 2;
+        if board[k] == FOUND {
+            board[k] = LOOKED;
             return Some(k);
         }
     }
@@ -70,8 +79,8 @@ fn find_neighbours(
 {
     let mut from = 0;
     while let Some(k) = couplings.next(station, from) {
-        if order.position(k as u16) < position && board[k] == 0 {
-            board[k] = 1;
+        if order.position(k as u16) < position && board[k] == UNSEEN {
+            board[k] = FOUND;
         }
         from = k + 1;
     }
@@ -100,7 +109,7 @@ pub(crate) fn joined(
     }
     let position = order.position(a).min(order.position(b));
     clear(marks.board, n);
-    marks.board[a as usize] = 1;
+    marks.board[a as usize] = FOUND;
     while let Some(station) = take_found(marks.board, n) {
         if couplings.contains(station, b as usize) {
             return true;
