@@ -7,3 +7,6 @@ pub mod Couplings
 pub mod Histories
 pub mod Plans
 pub mod Replays
+pub mod Marks
+pub mod Reaching
+pub mod Searching

@@ -8,3 +8,4 @@ pub mod PlanStates
 pub mod PlanView
 pub mod PlanLaws
 pub mod PlanCalls
+pub mod Boards

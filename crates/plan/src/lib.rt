@@ -3,6 +3,7 @@
 mod orders;
 mod plan;
 mod reserve;
+mod through;
 
 pub use plan::Plan;
 pub use plan::laws::fill_within_given_and_least_once_tightened;
