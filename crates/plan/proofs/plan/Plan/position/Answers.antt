@@ -1,7 +1,0 @@
-use Rattle.plan.specs.PlanStates.Question.{position-of}
-use Rattle.plan.specs.PlanView.{view}
-use Rattle.plan.proofs.Histories.{asks}
-use Rattle.plan.proofs.plan.Plan.position.Needs as need
-
-pub returns : need.returns
-returns c = record { value = c .position-in .ensures .value; history = asks (view (c .args .self .now)) (position-of (c .args .station)) }

@@ -1,5 +1,0 @@
-use Rattle.plan.proofs.Histories.{fill-kept}
-use Rattle.plan.proofs.plan.laws.fill_within_given_and_least_once_tightened.Needs as need
-
-pub returns : need.returns
-returns c = fill-kept

@@ -1,5 +1,0 @@
-use Rattle.plan.proofs.StationPlaces.{places-for-filled-pairs}
-use Rattle.plan.proofs.reserve.laws.places_for_filled_pairs.Needs as need
-
-pub returns : need.returns
-returns c = places-for-filled-pairs

@@ -1,6 +1,0 @@
-use Rattle.run.specs.Kinds.{kind}
-use Rattle.run.proofs.Calls.{by-square}
-use Rattle.run.proofs.laws.answers_are_those_of_the_square.Needs as need
-
-pub returns : need.returns
-returns g c = by-square (kind (g .E·Entry .usable) (g .E·Entry .first) (g .E·Entry .more))

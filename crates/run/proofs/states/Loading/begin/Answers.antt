@@ -1,6 +1,0 @@
-use mathlib.Core.Path.{refl}
-use Rattle.run.specs.Histories.RunHistory.{begun}
-use Rattle.run.proofs.states.Loading.begin.Needs as need
-
-pub returns : need.returns
-returns g c = record { reserve = refl; made = refl; history = λ sq put h. begun h }
