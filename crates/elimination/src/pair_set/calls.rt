@@ -106,7 +106,7 @@ impl PairSet {
     }
 
     /// Takes out every pair of `v`: a few word steps for each.
-    pub fn isolate(&mut self, v: usize)
+    pub(crate) fn isolate(&mut self, v: usize)
         requires { ⌜ v < 512 ⌝ }
         ensures { λ _. ⌜ graph (now (self .exit)) ≡ apart (graph (now (self .entry))) v ⌝ }
     {
@@ -118,7 +118,7 @@ impl PairSet {
     }
 
     /// Puts in every pair of two stations that are paired with `v`: eight word steps for each of them.
-    pub fn join_neighbours(&mut self, v: usize)
+    pub(crate) fn join_neighbours(&mut self, v: usize)
         requires one { ⌜ v < 512 ⌝ }
         requires irreflexive { ⌜ ((a : ℕ) → graph (now self) a a ≡ false) ⌝ }
         ensures { λ _. ⌜ graph (now (self .exit)) ≡ union (graph (now (self .entry))) (around (graph (now (self .entry))) v) ⌝ }

@@ -1,7 +1,6 @@
 use borrow.Author.Needs.{needs}
-use mathlib.Core.Path.{_≡_, sym, ap, subst, _∙_}
+use mathlib.Core.Path.{_≡_, sym, ap, _∙_}
 use mathlib.Core.Bool.{true}
-use Prim.Native.Nat.{ℕ}
 use Rattle.elimination.specs.Graphs.{Graph, closed}
 use Rattle.elimination.specs.View.{graph, listed}
 use Rattle.elimination.proofs.Least.{filled-holds}
