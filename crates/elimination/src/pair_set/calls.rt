@@ -11,6 +11,7 @@ ghost use Rattle.elimination.specs.Words.{between, commonWithin, nextIn};
 use super::PairSet;
 use crate::words::common_within;
 use crate::words::count_between;
+use crate::words::count_rows;
 use crate::words::holds;
 use crate::words::join_rows;
 use crate::words::next_in;
@@ -98,11 +99,7 @@ impl PairSet {
         ensures value { λ r. ⌜ r ≡ pairsBelow n (graph (now (self .entry))) ⌝ }
         ensures small { λ r. ⌜ r ≤ 512 * n ⌝ }
     {
-        let mut total = 0;
-        for a in 0..n {
-            total += self.count_between(a, 0, a);
-        }
-        total
+        count_rows(&self.words, n)
     }
 
     /// Takes out every pair of `v`: a few word steps for each.
