@@ -1,9 +1,8 @@
 -- The stations after one in an order, by positions: the first that passes a test, how many do, and the last.
-use mathlib.Core.Path.{_≡_, refl, sym, ap, subst, _∙_}
+use mathlib.Core.Path.{_≡_, refl, sym, ap, _∙_}
 use mathlib.Core.Bool.{Bool, true, false, cond, not, _&&_}
 use mathlib.Core.List.{List, [], _∷_}
-use mathlib.Core.Logic.{_⊎_, inl, inr, ⊎-elim}
-use Prim.Native.Nat.{ℕ, zero, suc, _+_, _-_, _<_, _≤_}
+use Prim.Native.Nat.{ℕ, zero, suc, _+_, _-_, _<_}
 use native.Mathlib.Omega.{arith}
 use native.Mathlib.Numerals.{add-one}
 use lib.Dec.{eqb}
@@ -11,12 +10,11 @@ use lib.ListN.{length, getD, drop}
 use lib.Seq.{drop-cons}
 use Rattle.std.specs.declared.option.Option.{Option}
 use Rattle.std.specs.declared.option.Option.the-variants.{Some, None}
-use Rattle.std.proofs.shelf.Tests.{eq-eqb, ne-eqb, cond-true, cond-false, cases-bool, both-ways}
+use Rattle.std.proofs.shelf.Tests.{eq-eqb, ne-eqb, cond-true, cond-false, both-ways}
 use Rattle.network.specs.Bits.{countTo}
-use Rattle.elimination.specs.Elimination.{filled, fill, firstOf, hangsFrom, howMany, orElse, beyond, pairsBelow, total}
+use Rattle.elimination.specs.Elimination.{firstOf, hangsFrom, howMany, orElse, beyond, pairsBelow}
 use Rattle.elimination.specs.Graphs.{Graph, Sub}
-use Rattle.elimination.specs.Orders.{In, Distinct, later, lastOf, positionOf}
-use Rattle.elimination.proofs.Least.{filled-holds}
+use Rattle.elimination.specs.Orders.{Distinct, later, lastOf}
 use Rattle.elimination.proofs.Listing.{getD-in}
 
 -- what comes after the station at k

@@ -1,19 +1,19 @@
 -- The list of all orders, and the test of minimal orders over it.
 use mathlib.Core.Path.{_≡_, refl, sym, ap, subst, _∙_}
-use mathlib.Core.Bool.{Bool, true, false, not, _&&_, _||_}
+use mathlib.Core.Bool.{Bool, true, false, not, _||_}
 use mathlib.Core.List.{List, [], _∷_, _++_, map}
-use mathlib.Core.Logic.{_⊎_, inl, inr, ⊎-elim, _≢_}
+use mathlib.Core.Logic.{_⊎_, inl, inr, ⊎-elim}
 use Prim.Native.Nat.{ℕ, zero, suc, _<_}
 use native.Mathlib.Omega.{arith}
 use Rattle.std.specs.shelf.Lists.{kept-by}
-use Rattle.std.proofs.shelf.Tests.{both-ways, cases-bool, cases-eq, and-parts, and-from, or-left, or-right, or-cases, not-true, not-false, not-from-false}
+use Rattle.std.proofs.shelf.Tests.{both-ways, cases-bool, cases-eq, and-parts, and-from, or-left, or-right, or-cases, not-true, not-from-false}
 use Rattle.elimination.specs.AllOrders.{Listed, everyOrder, inserts, insertsEach, minimal, orders, within}
-use Rattle.elimination.specs.Elimination.{Minimal, fill, filled}
+use Rattle.elimination.specs.Elimination.{Minimal, fill}
 use Rattle.elimination.specs.Graphs.{Graph, Simple, Sub, every}
 use Rattle.elimination.specs.Orders.{In, Distinct, Order, upTo}
 use Rattle.elimination.specs.Theorems.{Minimal-by-test, Orders-are-listed}
 use Rattle.elimination.proofs.Listing.{kept-same, order-without}
-use Rattle.elimination.proofs.Members.{but, but-self, but-other, distinct-kept}
+use Rattle.elimination.proofs.Members.{but, but-self, but-other}
 use Rattle.elimination.proofs.Relations.{every-in, in-every, in-upTo}
 use Rattle.elimination.proofs.Statements.{fill-parts, filled-simple}
 

@@ -1,15 +1,14 @@
 -- A spare pair can go, and which pairs need no second look.
 use mathlib.Core.Path.{_≡_, refl, sym, ap, subst, _∙_}
-use mathlib.Core.Bool.{Bool, true, false, cond, not, _&&_, _||_}
-use mathlib.Core.Logic.{_⊎_, inl, inr, ⊎-elim, _≢_}
+use mathlib.Core.Bool.{Bool, true, false, cond}
+use mathlib.Core.Logic.{_⊎_, ⊎-elim, _≢_}
 use mathlib.Core.List.{List}
 use Prim.Native.Nat.{ℕ, zero, suc, _+_, _*_, _/_, _%_, _<_, _≤_}
 use native.Mathlib.Omega.{arith}
-use lib.Dec.{eqb}
-use lib.ListN.{length, getD, set, length-set}
+use lib.ListN.{length, set, length-set}
 use Rattle.std.proofs.shelf.Lists.{getD-set-same, getD-set-other}
 use Rattle.std.proofs.shelf.Ways.{tells}
-use Rattle.std.proofs.shelf.Tests.{both-ways, cases-bool, cases-eq, cases-lt, cases-order}
+use Rattle.std.proofs.shelf.Tests.{both-ways, cases-eq, cases-lt}
 use Rattle.network.specs.Bits.{countTo}
 use Rattle.elimination.specs.Dropping.{Looked, LookedTo, Lost, Ready, Tight, marked, weight}
 use Rattle.elimination.specs.Graphs.{Graph, Simple, Sub, spare, without}
@@ -168,18 +167,6 @@ module _ (C E : Graph) (began : List Bool) (u from v : ℕ) (G G′ : Graph) (ag
       ))
 
 -- ---- one round
-
--- the row u is looked at, and its mark goes
-pub looked-row : (C G : Graph) (again : List Bool) (u : ℕ) → Looked C G again → LookedTo C G (set again u false) u 0
-looked-row C G again u f a b p q h k ma mb s =
-    ⊎-elim (λ (i : a ≡ u). none (p i))
-    (λ (na : a ≡ u → ⊥). ⊎-elim (λ (j : b ≡ u). none (q j))
-    (λ (nb : b ≡ u → ⊥). f a b h k (sym (getD-set-other again u a false false na) ∙ ma) (sym (getD-set-other again u b false false nb) ∙ mb) s)
-    (cases-eq b u))
-    (cases-eq a u)
-  where
-    none : {x : ℕ} → x < 0 → ⊥
-    none l = omega arith
 
 pub looked-start : (C G : Graph) (again : List Bool) → Below G → ((a : ℕ) → a < 512 → marked again a ≡ true) → Looked C G again
 looked-start C G again below m a b h k ma mb s = both-ways (marked again a) ma (m a (below a b h .0))

@@ -1,10 +1,10 @@
 use mathlib.Core.Path.{_≡_, refl, sym, _∙_, ap}
 use mathlib.Core.List.{List, [], _∷_}
-use mathlib.Core.Bool.{Bool, true, false, not, _&&_, _||_}
+use mathlib.Core.Bool.{Bool, true, false, not, _||_}
 use mathlib.Core.Logic.{_⊎_, inl, inr, ⊎-elim, _≢_}
 use Prim.Native.Nat.{ℕ}
 use lib.Dec.{eqb}
-use Rattle.std.proofs.shelf.Tests.{both-ways, cases-bool, eqb-true, eqb-false, eq-eqb, or-cases, or-parts, or-left, or-right}
+use Rattle.std.proofs.shelf.Tests.{both-ways, cases-bool, eqb-true, eqb-false, eq-eqb, or-cases, or-parts, or-left}
 use Rattle.elimination.proofs.Relations.{Symmetric, Irreflexive, Simplicial, Closed, Clique}
 use Rattle.elimination.specs.Graphs.{Graph}
 use Rattle.elimination.specs.Orders.{In, member}

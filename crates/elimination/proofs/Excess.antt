@@ -1,11 +1,10 @@
 -- A graph that is closed under an order, and has more pairs than another such, has a spare pair that the other lacks.
-use mathlib.Core.Path.{_≡_, refl, sym, _∙_, ap}
+use mathlib.Core.Path.{_≡_, refl}
 use mathlib.Core.List.{List, [], _∷_}
-use mathlib.Core.Bool.{Bool, true, false, cond, not, _&&_, _||_}
-use mathlib.Core.Logic.{_⊎_, inl, inr, ⊎-elim, _≢_}
+use mathlib.Core.Bool.{Bool, true, false, not, _&&_, _||_}
+use mathlib.Core.Logic.{_⊎_, inl, inr, ⊎-elim}
 use Prim.Native.Nat.{ℕ}
-use lib.Dec.{eqb}
-use Rattle.std.proofs.shelf.Tests.{both-ways, cases-bool, and-parts, and-from, or-cases, or-parts, not-true, not-false}
+use Rattle.std.proofs.shelf.Tests.{both-ways, and-parts, and-from, or-cases, or-parts, not-true, not-false}
 use Rattle.std.specs.shelf.Lists.{kept-by}
 use Rattle.elimination.proofs.Relations.{Symmetric, Irreflexive, Simplicial, Closed, Clique, Spare}
 use Rattle.elimination.specs.Graphs.{Graph, Sub}

@@ -1,19 +1,18 @@
 -- An order that ends in a given station and closes the same graph.
-use mathlib.Core.Path.{_≡_, refl, sym, ap, subst, _∙_}
-use mathlib.Core.List.{List, [], _∷_, _++_}
-use mathlib.Core.Bool.{Bool, true, false, not}
+use mathlib.Core.Path.{_≡_, refl, sym, _∙_}
+use mathlib.Core.List.{List, [], _∷_}
 use mathlib.Core.Logic.{_⊎_, inl, inr, ⊎-elim, _≢_}
-use Prim.Native.Nat.{ℕ, zero, suc, _≤_, _<_}
+use Prim.Native.Nat.{ℕ, zero, suc, _≤_}
 use native.Mathlib.Omega.{arith}
 use lib.Dec.{eqb}
 use lib.ListN.{length}
 use Rattle.std.specs.declared.option.Option.{Option}
-use Rattle.std.specs.declared.option.Option.the-variants.{Some, None}
+use Rattle.std.specs.declared.option.Option.the-variants.{Some}
 use Rattle.std.proofs.shelf.Tests.{cases-eq, eqb-true, eqb-false}
 use Rattle.std.specs.shelf.Lists.{kept-by}
 use Rattle.elimination.specs.Graphs.{Graph}
 use Rattle.elimination.specs.Orders.{In, Distinct, lastOf}
-use Rattle.elimination.proofs.Relations.{Symmetric, Irreflexive, Simplicial, Closed, Clique}
+use Rattle.elimination.proofs.Relations.{Symmetric, Irreflexive, Closed, Clique}
 use Rattle.elimination.proofs.Members.{but, but-self, but-other, but-apart, in-kept, kept-in, closed-kept, distinct-kept, kept-fewer}
 use Rattle.elimination.proofs.EndVertex.{Fails, Passes, some-or-all, End, end-vertex}
 

@@ -1,17 +1,16 @@
 -- What elimination fills: it holds the graph, is closed under the order, and is the least such.
-use mathlib.Core.Path.{_≡_, refl, sym, _∙_, ap, ap₂}
+use mathlib.Core.Path.{_≡_, refl, ap₂}
 use mathlib.Core.List.{List, [], _∷_}
-use mathlib.Core.Bool.{Bool, true, false, cond, not, _&&_, _||_}
+use mathlib.Core.Bool.{true, _||_}
 use mathlib.Core.Logic.{_⊎_, inl, inr, ⊎-elim, _≢_}
 use Prim.Native.Nat.{ℕ}
 use native.Mathlib.Omega.{arith}
-use lib.Dec.{eqb}
-use Rattle.std.proofs.shelf.Tests.{both-ways, cases-bool, and-parts, and-from, or-cases, or-parts, or-left, or-right, not-true, not-false, ne-eqb, eqb-false, not-from-false}
+use Rattle.std.proofs.shelf.Tests.{or-cases, or-left, or-right}
 use Rattle.std.proofs.shelf.Ways.{tells}
 use Rattle.elimination.proofs.Relations.{Symmetric, Irreflexive, Simplicial, Closed, Within}
 use Rattle.elimination.specs.Elimination.{after, filled}
 use Rattle.elimination.specs.Graphs.{Graph, Sub}
-use Rattle.elimination.specs.Orders.{In, Distinct, member}
+use Rattle.elimination.specs.Orders.{In, Distinct}
 
 pub after-old : (C : Graph) (v a b : ℕ) → a ≢ v → b ≢ v → C a b ≡ true → after C v a b ≡ true
 after-old C v a b m n h = grind (arith, tells)

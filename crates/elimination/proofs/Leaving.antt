@@ -1,21 +1,21 @@
 -- One station leaves, and all leave in turn: what was taken along so far, and what is left.
 use mathlib.Core.Path.{_≡_, refl, sym, ap, subst, _∙_, fun-ext}
-use mathlib.Core.Bool.{Bool, true, false, not, _&&_, _||_}
+use mathlib.Core.Bool.{Bool, true, false, _&&_, _||_}
 use mathlib.Core.List.{List, [], _∷_}
-use mathlib.Core.Logic.{_⊎_, inl, inr, ⊎-elim, _≢_}
-use Prim.Native.Nat.{ℕ, zero, suc, _+_, _<_, _≤_}
+use mathlib.Core.Logic.{_⊎_, ⊎-elim, _≢_}
+use Prim.Native.Nat.{ℕ, suc, _+_, _<_, _≤_}
 use native.Mathlib.Omega.{arith}
 use native.Mathlib.Numerals.{add-one}
 use lib.Dec.{eqb, ltb}
 use lib.ListN.{length, getD, drop}
 use lib.Seq.{drop-cons}
 use Rattle.std.proofs.shelf.Ways.{tells}
-use Rattle.std.proofs.shelf.Tests.{both-ways, cases-bool, cases-eq, cases-lt, and-parts}
+use Rattle.std.proofs.shelf.Tests.{both-ways, cases-bool, cases-eq, cases-lt}
 use Rattle.elimination.specs.Elimination.{after, filled}
 use Rattle.elimination.specs.Graphs.{Graph, Simple, apart, around, including, pairsAt, union}
-use Rattle.elimination.specs.Orders.{In, Order}
+use Rattle.elimination.specs.Orders.{Order}
 use Rattle.elimination.proofs.Least.{after-old, after-cases, after-symmetric, after-irreflexive, filled-holds, within-after}
-use Rattle.elimination.proofs.Relations.{Symmetric, Irreflexive, Within, plain}
+use Rattle.elimination.proofs.Relations.{Symmetric, Within, plain}
 use Rattle.elimination.proofs.Walks.{Gap}
 
 -- ---- the pairs of one station
@@ -25,12 +25,6 @@ abbrev pub keeping : Graph → Graph → ℕ → ℕ → Graph
 keeping F W v b x y = F x y || ((eqb x v && (ltb y b && W v y)) || (eqb y v && (ltb x b && W v x)))
 
 module _ (F W : Graph) (v : ℕ) where
-  pub keeping-none : F ≡ keeping F W v 0
-  keeping-none = fun-ext (λ x. fun-ext (λ y. at x y))
-    where
-      at : (x y : ℕ) → F x y ≡ keeping F W v 0 x y
-      at x y = grind (arith, tells)
-
   pub keeping-more : (H : Graph) (low a : ℕ) → H ≡ keeping F W v low → low ≤ a → W v a ≡ true → Gap W v low a → including H v a ≡ keeping F W v (a + 1)
   keeping-more H low a e le here gap = ap (λ (K : Graph). including K v a) e ∙ fun-ext (λ x. fun-ext (λ y. at x y))
     where
@@ -74,9 +68,6 @@ left E v = fun-ext (λ x. fun-ext (λ y. here x y))
   where
     here : (x y : ℕ) → apart (union E (around E v)) v x y ≡ after E v x y
     here x y = grind (arith, tells)
-
-pub joined-irreflexive : (E : Graph) (v : ℕ) → Irreflexive E → Irreflexive (union E (around E v))
-joined-irreflexive E v ir a = let e = ir a in grind (arith, tells)
 
 pub simple-after : (n : ℕ) (E : Graph) (v : ℕ) → Simple n E → Simple n (after E v)
 simple-after n E v s =

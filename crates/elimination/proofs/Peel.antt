@@ -1,20 +1,20 @@
 -- Taking a simplicial station again and again.
 use mathlib.Core.Path.{_≡_, refl, sym, ap, subst, _∙_}
 use mathlib.Core.List.{List, [], _∷_, _++_, append-assoc}
-use mathlib.Core.Bool.{Bool, true, false, not, _&&_, _||_}
+use mathlib.Core.Bool.{Bool, true, false, not}
 use mathlib.Core.Logic.{_⊎_, inl, inr, ⊎-elim, _≢_}
-use Prim.Native.Nat.{ℕ, zero, suc, _+_, _<_, _≤_}
+use Prim.Native.Nat.{ℕ, _+_, _<_, _≤_}
 use native.Mathlib.Omega.{arith}
-use lib.Dec.{eqb, ltb}
+use lib.Dec.{eqb}
 use lib.ListN.{length, getD, set, length-set}
 use lib.Seq.{getD-set-same, getD-set-other}
 use Rattle.std.specs.declared.option.Option.{Option}
-use Rattle.std.specs.declared.option.Option.the-variants.{Some, None}
+use Rattle.std.specs.declared.option.Option.the-variants.{Some}
 use Rattle.std.proofs.shelf.Ways.{tells}
-use Rattle.std.proofs.shelf.Tests.{both-ways, and-parts, cases-bool, cases-eq, eqb-true, eqb-false, ne-eqb}
+use Rattle.std.proofs.shelf.Tests.{both-ways, and-parts, cases-eq, eqb-true, eqb-false, ne-eqb}
 use Rattle.std.specs.shelf.Lists.{kept-by}
 use Rattle.elimination.specs.Dropping.{marked}
-use Rattle.elimination.specs.Graphs.{Graph, Simple, apart, spare}
+use Rattle.elimination.specs.Graphs.{Graph, Simple, apart}
 use Rattle.elimination.specs.Orders.{In, Distinct, Order, lastOf}
 use Rattle.elimination.specs.Theorems.{Perfect}
 use Rattle.elimination.proofs.EndVertex.{End, Fails, end-vertex}

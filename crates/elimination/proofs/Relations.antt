@@ -1,15 +1,15 @@
 -- The tests of specs/ as relations, which proofs work with.
-use mathlib.Core.Path.{_≡_, refl, sym, ap, _∙_}
+use mathlib.Core.Path.{_≡_, refl, ap, _∙_}
 use mathlib.Core.List.{List, [], _∷_, _++_}
 use mathlib.Core.Bool.{Bool, true, false, not, _&&_, _||_}
 use mathlib.Core.Logic.{_⊎_, inl, inr, ⊎-elim, _≢_}
 use Prim.Native.Nat.{ℕ, zero, suc, _<_}
 use native.Mathlib.Omega.{arith}
 use lib.Dec.{eqb}
-use Rattle.std.proofs.shelf.Tests.{and-parts, and-from, cases-bool, cases-eq}
+use Rattle.std.proofs.shelf.Tests.{and-parts, and-from, cases-eq}
 use Rattle.std.proofs.shelf.Ways.{tells}
 use Rattle.elimination.specs.Graphs.{Graph, Simple, every, complete, simplicial, closed, spare}
-use Rattle.elimination.specs.Orders.{In, Distinct, Order, upTo}
+use Rattle.elimination.specs.Orders.{In, Order, upTo}
 
 abbrev pub Symmetric : Graph → Type 0
 Symmetric G = (a b : ℕ) → G a b ≡ G b a

@@ -1,20 +1,20 @@
 -- A closed graph without a spare pair is closed under some order.
 use mathlib.Core.Path.{_≡_, refl, sym, _∙_, ap}
 use mathlib.Core.List.{List, [], _∷_}
-use mathlib.Core.Bool.{Bool, true, false, cond, not, _&&_, _||_}
+use mathlib.Core.Bool.{Bool, true, false, _&&_, _||_}
 use mathlib.Core.Logic.{_⊎_, inl, inr, ⊎-elim, _≢_}
-use Prim.Native.Nat.{ℕ, zero, suc, _≤_, _<_}
+use Prim.Native.Nat.{ℕ, zero, suc, _≤_}
 use native.Mathlib.Omega.{arith}
 use lib.Dec.{eqb}
 use lib.ListN.{length}
-use Rattle.std.proofs.shelf.Tests.{both-ways, cases-eq, cases-bool, and-parts, and-from, or-cases, or-parts, or-left, or-right, not-true, not-false, not-from-false, ne-eqb, eqb-true, eq-eqb, eqb-false}
+use Rattle.std.proofs.shelf.Tests.{both-ways, cases-eq}
 use Rattle.std.proofs.shelf.Ways.{tells}
 use Rattle.std.specs.shelf.Lists.{kept-by}
 use Rattle.elimination.proofs.Relations.{Symmetric, Irreflexive, Simplicial, Closed, Clique, Spare}
 use Rattle.elimination.specs.Graphs.{Graph, Sub, without}
-use Rattle.elimination.specs.Orders.{In, Distinct, member}
+use Rattle.elimination.specs.Orders.{In, Distinct}
 use Rattle.elimination.proofs.Members.{but, but-self, but-other, but-apart, in-kept, kept-in, closed-kept, distinct-kept, kept-fewer}
-use Rattle.elimination.proofs.EndVertex.{Fails, Passes, some-or-all, End, own, end-vertex}
+use Rattle.elimination.proofs.EndVertex.{Fails, Passes, some-or-all, End, end-vertex}
 
 without-some : (H : Graph) (u v a b : ℕ) → H a b ≡ true → (a ≡ u → b ≡ v → ⊥) → (a ≡ v → b ≡ u → ⊥) → without H u v a b ≡ true
 without-some H u v a b h m n = grind (arith, tells)
@@ -49,9 +49,6 @@ core-cases H u v a e = grind (arith, tells)
 
 core-not : (H : Graph) (u v a : ℕ) → core H u v a ≡ false → (a ≢ u) × (a ≢ v) × (H u a ≡ true → H v a ≡ true → ⊥)
 core-not H u v a e = grind (arith, tells)
-
-core-ends : (H : Graph) (u v : ℕ) → (core H u v u ≡ true) × (core H u v v ≡ true)
-core-ends H u v = grind (arith, tells)
 
 module _ (H : Graph) (sy : Symmetric H) (ir : Irreflexive H) (u v : ℕ) (uv : H u v ≡ true) where
   core-clique : (xs : List ℕ) → Spare H u v xs → Clique H (core H u v) xs

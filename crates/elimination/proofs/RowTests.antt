@@ -1,5 +1,5 @@
 -- Rows word by word: the next member, a row in another, common members, and counts.
-use mathlib.Core.Path.{_≡_, refl, sym, ap, ap₂, _∙_, subst, fun-ext}
+use mathlib.Core.Path.{_≡_, refl, sym, ap, ap₂, _∙_, fun-ext}
 use mathlib.Core.Bool.{Bool, true, false, not, _&&_, _||_, cond}
 use mathlib.Core.List.{List}
 use Prim.Native.Nat.{ℕ, zero, suc, _+_, _-_, _*_, _/_, _%_, _^_, _≤_, _<_}
@@ -12,20 +12,20 @@ use lib.ListN.{length, getD, set}
 use lib.Bits.{bitAnd, bitOr, and-le-l}
 use Rattle.std.specs.declared.option.Option.{Option}
 use Rattle.std.specs.declared.option.Option.the-variants.{Some, None}
-use Rattle.std.proofs.shelf.Tests.{both-ways, cases-bool, cases-eq, cases-lt, cases-order, eqb-true, eq-eqb, ne-eqb, or-cases, or-left, or-right, and-parts, and-from, lt-ltb, le-ltb}
+use Rattle.std.proofs.shelf.Tests.{both-ways, cases-bool, cases-eq, cases-lt, cases-order, eqb-true, eq-eqb, ne-eqb, or-cases, or-left, or-right, and-parts, le-ltb}
 use Rattle.std.proofs.shelf.Ways.{tells}
 use Rattle.std.specs.Orderings.{Decides}
 use Rattle.std.proofs.shelf.Bits.{one-shl}
 use Rattle.network.specs.Bits.{bitAt, countTo}
-use Rattle.network.specs.Net.{Net, firstFrom, nextCoupled}
+use Rattle.network.specs.Net.{nextCoupled}
 use Rattle.network.specs.Laws.{FirstIs}
 use Rattle.network.proofs.Bits.{bitAt-zero, bitAt-suc, bitAt-or, bitAt-and, bitAt-pow, bitAt-not, bits-within, within-bits, countTo-add, countTo-same, ones-bits}
 use Rattle.network.proofs.Nexts.{next-smallest}
-use Rattle.elimination.specs.Graphs.{Graph, every}
-use Rattle.elimination.specs.Orders.{In, upTo}
+use Rattle.elimination.specs.Graphs.{Graph}
+use Rattle.elimination.specs.Orders.{upTo}
 use Rattle.elimination.specs.Words.{has, rows, rowTaken, between, nextIn, commonWithin}
-use Rattle.elimination.proofs.Relations.{Meets, every-in, in-every, in-upTo, upTo-in}
-use Rattle.elimination.proofs.Rows.{rows-has, rows-below, rows-past, rows-are, has-set}
+use Rattle.elimination.proofs.Relations.{Meets, every-in, in-every, in-upTo}
+use Rattle.elimination.proofs.Rows.{rows-has, rows-below, rows-are, has-set}
 
 -- ---- the lowest set bit
 

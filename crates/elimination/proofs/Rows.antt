@@ -1,8 +1,8 @@
 -- Single words of a row, and what a write to one does to each pair.
-use mathlib.Core.Path.{_≡_, refl, sym, ap, ap₂, _∙_, subst, fun-ext}
-use mathlib.Core.Bool.{Bool, true, false, not, _&&_, _||_, cond}
+use mathlib.Core.Path.{_≡_, sym, ap, _∙_, fun-ext}
+use mathlib.Core.Bool.{true, false, not, _&&_, cond}
 use mathlib.Core.List.{List}
-use Prim.Native.Nat.{ℕ, zero, suc, _+_, _-_, _*_, _/_, _%_, _^_, _≤_, _<_}
+use Prim.Native.Nat.{ℕ, _+_, _-_, _*_, _/_, _%_, _^_, _≤_, _<_}
 use mathlib.Core.Logic.{_⊎_, inl, inr, ⊎-elim}
 use native.Mathlib.Omega.{arith}
 use lib.Dec.{eqb, ltb}
@@ -15,7 +15,7 @@ use Rattle.std.proofs.shelf.Bits.{one-shl, pow-below}
 use Rattle.network.specs.Bits.{bitAt}
 use Rattle.network.proofs.Bits.{bitAt-none, bitAt-or, bitAt-and, bitAt-pow, bitAt-not}
 use Rattle.elimination.specs.Graphs.{Graph}
-use Rattle.elimination.specs.Words.{has, rows, placed, struck, rowTaken}
+use Rattle.elimination.specs.Words.{has, rows, placed, struck}
 
 -- ---- rows and single bits
 

@@ -1,20 +1,20 @@
 -- The theorems of specs/Theorems.antt, proved.
-use mathlib.Core.Path.{_≡_, refl, sym, ap, _∙_}
+use mathlib.Core.Path.{_≡_, _∙_}
 use mathlib.Core.List.{List}
-use mathlib.Core.Bool.{Bool, true, false, not, _&&_}
-use mathlib.Core.Logic.{_⊎_, inl, inr, ⊎-elim}
-use Prim.Native.Nat.{ℕ, _<_}
-use Rattle.std.proofs.shelf.Tests.{both-ways, cases-bool, and-parts, and-from, not-true, not-false, not-from-false}
+use mathlib.Core.Bool.{true, false, not}
+use mathlib.Core.Logic.{_⊎_, ⊎-elim}
+use Prim.Native.Nat.{ℕ}
+use Rattle.std.proofs.shelf.Tests.{both-ways, cases-bool, and-parts, and-from, not-true, not-from-false}
 use Rattle.network.specs.Net.{Net, Lawful}
-use Rattle.elimination.specs.Graphs.{Graph, Simple, Sub, ProperPart, complete, simplicial, closed, spare, without}
-use Rattle.elimination.specs.Orders.{In, Order, upTo, lastOf}
-use Rattle.elimination.specs.Elimination.{filled, fill, Minimal}
-use Rattle.elimination.specs.Theorems.{Filled-is-the-least-closed, Filled-by-paths, End-vertex, Without-spare-fill-minimal, Less-fill-leaves-a-spare-pair, Perfect, Spare-pairs-can-go, Perfect-fills-within, Any-station-last, Seats-without-new-fill}
-use Rattle.elimination.proofs.Relations.{Closed, Clique, Plain, SpareIn, plain, simple, clique-from, clique-to, closed-from, closed-to, in-upTo, upTo-in, spare-from, spare-to}
+use Rattle.elimination.specs.Graphs.{Graph, Simple, Sub, closed, spare, without}
+use Rattle.elimination.specs.Orders.{In, Order, upTo}
+use Rattle.elimination.specs.Elimination.{filled, fill}
+use Rattle.elimination.specs.Theorems.{Filled-is-the-least-closed, Filled-by-paths, End-vertex, Without-spare-fill-minimal, Less-fill-leaves-a-spare-pair, Spare-pairs-can-go, Perfect-fills-within, Any-station-last, Seats-without-new-fill}
+use Rattle.elimination.proofs.Relations.{Closed, Clique, SpareIn, plain, simple, clique-from, clique-to, closed-from, closed-to, in-upTo, upTo-in, spare-from, spare-to}
 use Rattle.elimination.proofs.Least.{filled-holds, filled-closed, filled-least, filled-symmetric, filled-irreflexive, within-filled}
-use Rattle.elimination.proofs.EndVertex.{Fails, End, end-vertex}
+use Rattle.elimination.proofs.EndVertex.{End, end-vertex}
 use Rattle.elimination.proofs.Excess.{Excess, excess}
-use Rattle.elimination.proofs.Removal.{removal, without-sub}
+use Rattle.elimination.proofs.Removal.{removal}
 use Rattle.elimination.proofs.Paths.{filled-joined, joined-filled}
 use Rattle.elimination.proofs.Lasts.{EndsIn, ends-in}
 

@@ -2,11 +2,10 @@
 use mathlib.Core.Path.{_≡_, refl, sym, ap, _∙_, fun-ext}
 use mathlib.Core.Bool.{Bool, true, false, not, _&&_, _||_, cond}
 use Prim.Native.Nat.{ℕ, zero, suc, _+_, _-_, _*_, _≤_, _<_}
-use mathlib.Core.Logic.{_⊎_, inl, inr, ⊎-elim}
-use native.Mathlib.Nat.{add-suc}
+use mathlib.Core.Logic.{_⊎_, ⊎-elim}
 use native.Mathlib.Omega.{arith}
 use lib.Dec.{eqb, ltb}
-use Rattle.std.proofs.shelf.Tests.{both-ways, cases-bool, cases-eq, cases-lt}
+use Rattle.std.proofs.shelf.Tests.{cases-bool, cases-eq, cases-lt}
 use Rattle.std.proofs.shelf.Ways.{tells}
 use Rattle.network.specs.Bits.{countTo}
 use Rattle.network.proofs.Bits.{countTo-add, countTo-same, countTo-le}
@@ -24,12 +23,6 @@ Gap G v low high = (x : ℕ) → low ≤ x → x < high → G v x ≡ false
 -- G without the pairs of v with stations below w
 abbrev pub cut : Graph → ℕ → ℕ → Graph
 cut G v w a b = G a b && not ((eqb a v && ltb b w) || (eqb b v && ltb a w))
-
-pub cut-none : (G : Graph) (v : ℕ) → G ≡ cut G v 0
-cut-none G v = fun-ext (λ a. fun-ext (λ b. at a b))
-  where
-    at : (a b : ℕ) → G a b ≡ cut G v 0 a b
-    at a b = grind (arith, tells)
 
 pub cut-more : (G : Graph) (v w : ℕ) → without (cut G v w) v w ≡ cut G v (w + 1)
 cut-more G v w = fun-ext (λ a. fun-ext (λ b. at a b))
@@ -68,12 +61,6 @@ cut-all G v w below = fun-ext (λ a. fun-ext (λ b. at a b))
 -- G, with the neighbours of v below w joined to all of them
 abbrev pub joining : Graph → ℕ → ℕ → Graph
 joining G v w a b = G a b || (ltb a w && around G v a b)
-
-pub joining-none : (G : Graph) (v : ℕ) → G ≡ joining G v 0
-joining-none G v = fun-ext (λ a. fun-ext (λ b. at a b))
-  where
-    at : (a b : ℕ) → G a b ≡ joining G v 0 a b
-    at a b = grind (arith, tells)
 
 -- the row of v stays
 pub joining-row : (G : Graph) (v w x : ℕ) → G v v ≡ false → joining G v w v x ≡ G v x

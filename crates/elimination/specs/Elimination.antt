@@ -7,7 +7,7 @@ use lib.Dec.{eqb}
 use Rattle.std.specs.declared.option.Option.{Option}
 use Rattle.std.specs.declared.option.Option.the-variants.{Some, None}
 use Rattle.network.specs.Bits.{countTo}
-use Rattle.elimination.specs.Graphs.{Graph, Sub, ProperPart}
+use Rattle.elimination.specs.Graphs.{Graph, ProperPart}
 use Rattle.elimination.specs.Orders.{In, Order, later, earlier, lastOf}
 
 -- v leaves: its pairs go, and every two of its neighbours become neighbours

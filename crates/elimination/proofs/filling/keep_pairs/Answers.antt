@@ -1,4 +1,4 @@
-use mathlib.Core.Path.{_≡_, _∙_}
+use mathlib.Core.Path.{_∙_}
 use native.Mathlib.Omega.{arith}
 use Rattle.elimination.specs.View.{graph}
 use Rattle.elimination.proofs.Rows.{rows-below}

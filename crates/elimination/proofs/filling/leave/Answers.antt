@@ -1,4 +1,4 @@
-use mathlib.Core.Path.{_≡_, sym, ap, subst, _∙_}
+use mathlib.Core.Path.{ap, _∙_}
 use Rattle.elimination.specs.Graphs.{Graph, apart}
 use Rattle.elimination.specs.View.{graph}
 use Rattle.elimination.proofs.Leaving.{left}

@@ -1,12 +1,11 @@
 use borrow.Author.Needs.{needs}
 use mathlib.Core.Path.{_≡_, refl, sym, ap, _∙_}
-use mathlib.Core.List.{List, [], _∷_, _++_}
-use Prim.Native.Nat.{ℕ, _+_, _-_, _<_, _≤_}
+use Prim.Native.Nat.{ℕ, _+_, _-_, _<_}
 use native.Mathlib.Omega.{arith}
 use lib.ListN.{length, take, set, length-set}
 use Rattle.std.proofs.shelf.Lists.{take-more-set}
 use Rattle.elimination.specs.View.{graph}
-use Rattle.elimination.proofs.Peel.{Peel, peel-start, peel-some, peel-step, peel-end}
+use Rattle.elimination.proofs.Peel.{peel-start, peel-some, peel-step, peel-end}
 use Rattle.elimination.proofs.Relations.{closed-to, spare-from, spare-to}
 use Rattle.elimination.proofs.Rows.{rows-below}
 use Rattle.elimination.proofs.perfect.perfect_stations.Needs as need

@@ -1,8 +1,6 @@
 use mathlib.Core.Path.{_≡_}
-use Prim.Native.Nat.{_≤_}
 use lib.ListN.{drop}
 use Rattle.elimination.specs.Elimination.{firstOf}
-use Rattle.elimination.specs.Orders.{later}
 use Rattle.elimination.specs.View.{graph, listed}
 use Rattle.elimination.proofs.tree.hangs_from.Given as given
 

@@ -1,10 +1,8 @@
-use mathlib.Core.Path.{_≡_, ap, _∙_}
-use Prim.Native.Nat.{ℕ, _-_, _*_, _+_}
+use mathlib.Core.Path.{ap, _∙_}
+use Prim.Native.Nat.{ℕ, _-_, _*_}
 use native.Mathlib.Omega.{arith}
-use lib.Dec.{ltb}
 use Rattle.std.proofs.shelf.Bits.{one-shl}
 use Rattle.std.proofs.shelf.Ways.{tells}
-use Rattle.std.proofs.shelf.Tests.{le-ltb, lt-ltb}
 use Rattle.network.specs.Bits.{bitAt}
 use Rattle.network.proofs.Bits.{bitAt-none, bitAt-low}
 use Rattle.elimination.proofs.words.below.Needs as need

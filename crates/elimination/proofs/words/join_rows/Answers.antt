@@ -1,10 +1,9 @@
-use mathlib.Core.Path.{_≡_, sym, ap, _∙_}
-use Prim.Native.Nat.{ℕ}
+use mathlib.Core.Path.{ap, _∙_}
 use native.Mathlib.Omega.{arith}
 use Rattle.elimination.specs.Graphs.{Graph}
-use Rattle.elimination.specs.Words.{rows, struck, rowTaken}
+use Rattle.elimination.specs.Words.{rows, struck}
 use Rattle.elimination.proofs.Rows.{rows-below}
-use Rattle.elimination.proofs.Walks.{joining, joining-more, joining-all}
+use Rattle.elimination.proofs.Walks.{joining-more, joining-all}
 use Rattle.elimination.proofs.words.join_rows.Needs as need
 
 pub loop-a-again : need.loop-a-again

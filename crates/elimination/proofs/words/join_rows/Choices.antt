@@ -1,6 +1,5 @@
 use mathlib.Core.Path.{_≡_}
 use Prim.Native.Nat.{_-_, _≤_}
-use lib.ListN.{length}
 use Rattle.elimination.specs.Words.{rows}
 use Rattle.elimination.proofs.Walks.{joining}
 use Rattle.elimination.proofs.words.join_rows.Given as given

@@ -5,7 +5,7 @@ use mathlib.Core.Bool.{false}
 use native.Mathlib.Omega.{arith}
 use lib.ListN.{getD}
 use lib.Bits.{bitAnd, and-le-l}
-use Rattle.elimination.proofs.RowTests.{is-next, next-here, next-later, rest}
+use Rattle.elimination.proofs.RowTests.{is-next, next-here, next-later}
 use Rattle.elimination.specs.Words.{rows}
 use Rattle.elimination.proofs.words.next_in.Needs as need
 

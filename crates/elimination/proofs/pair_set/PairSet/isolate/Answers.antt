@@ -1,10 +1,9 @@
-use mathlib.Core.Path.{_≡_, sym, ap, _∙_}
-use Prim.Native.Nat.{ℕ}
+use mathlib.Core.Path.{ap, _∙_}
 use native.Mathlib.Omega.{arith}
 use Rattle.elimination.specs.Graphs.{Graph, without}
 use Rattle.elimination.specs.View.{graph}
 use Rattle.elimination.proofs.Rows.{rows-below}
-use Rattle.elimination.proofs.Walks.{cut, cut-gap, cut-more, cut-all}
+use Rattle.elimination.proofs.Walks.{cut-gap, cut-more, cut-all}
 use Rattle.elimination.proofs.pair_set.PairSet.isolate.Needs as need
 
 pub loop-a-again : need.loop-a-again
