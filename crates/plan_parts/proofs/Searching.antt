@@ -1,9 +1,9 @@
--- What the marks of a search say of the stations: those marked are reached, and those whose neighbours were looked at
--- have no unmarked neighbour that passes, and not b.
-use mathlib.Core.Path.{_≡_, refl, sym, ap, _∙_}
+-- What the marks of a search say of the stations: those marked are reached; of those whose neighbours were looked at,
+-- each neighbour that passes is marked, and none is b.
+use mathlib.Core.Path.{_≡_, sym, ap, _∙_}
 use mathlib.Core.Bool.{Bool, true, false, cond, _&&_}
 use mathlib.Core.List.{List, _++_}
-use mathlib.Core.Logic.{_⊎_, inl, inr, ⊎-elim, _≢_}
+use mathlib.Core.Logic.{inl, inr, ⊎-elim, _≢_}
 use Prim.Native.Nat.{ℕ, zero, suc, _+_, _-_, _<_, _≤_}
 use native.Mathlib.Omega.{arith}
 use lib.Dec.{eqb, ltb}

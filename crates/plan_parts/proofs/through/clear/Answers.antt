@@ -1,6 +1,6 @@
-use mathlib.Core.Path.{_≡_, ap, _∙_}
+use mathlib.Core.Path.{ap, _∙_}
 use mathlib.Core.List.{List}
-use Prim.Native.Nat.{_<_}
+use Prim.Native.Nat.{ℕ, _<_}
 use native.Mathlib.Omega.{arith}
 use lib.ListN.{length, set}
 use Rattle.std.proofs.shelf.Edits.{fill-more}
@@ -10,4 +10,4 @@ pub loop-k-again : need.loop-k-again
 loop-k-again c =
     let k = c .loop-k .k in
     let room : k < length (c .args .board .now) = omega arith in
-    ap (λ (bs : List _). set bs k 0) (c .loop-k .inv) ∙ fill-more k 0 (c .args .board .now) room
+    ap (λ (bs : List ℕ). set bs k 0) (c .loop-k .inv) ∙ fill-more k 0 (c .args .board .now) room
