@@ -10,6 +10,7 @@ use lib.ListN.{length, getD, set, length-set}
 use Rattle.std.specs.Finite.{nth}
 use Rattle.std.specs.Options.{isSome}
 use Rattle.std.proofs.shelf.Tests.{cases-bool, cases-eq, eq-eqb, ne-eqb, ltb-true, lt-ltb, le-ltb, both-ways}
+use Rattle.std.proofs.shelf.Ways.{tells}
 use Rattle.std.specs.declared.option.Option.{Option}
 use Rattle.std.specs.declared.option.Option.the-variants.{Some, None}
 use Rattle.elimination.specs.Graphs.{Graph}
@@ -23,7 +24,7 @@ use Rattle.run_parts.specs.Kinds.{Kind}
 use Rattle.run_parts.specs.Square.{Square, pivot, pivotal, single, withEntry, beyond}
 use Rattle.run_parts.specs.Tables.{squareOf, entryAt, Room, Within}
 use Rattle.run_parts.specs.Parts.{Pivoted}
-use Rattle.run_parts.specs.Outcomes.{roomy, putOutcome, stepOutcome}
+use Rattle.run_parts.specs.Outcomes.{roomy, checkedPlace, putOutcome, pivotOutcome, stepOutcome}
 use Rattle.run_parts.specs.Laws.{Answers-are-those-of-the-square}
 use Rattle.run_parts.specs.Histories.{Stage, RunHistory, Agrees, rowOf, columnOf}
 use Rattle.run_parts.specs.Histories.Stage.{loading, running}
@@ -95,14 +96,26 @@ module _ {E : Type 0} (K : Kind E) (F : Graph) (n : ℕ) (xs : List ℕ) (closed
         agrees-square F n es' ms' (pivot K k sq) room' (λ i j. pivoted .square i j ∙ part-like K k (beyond k) (beyond k) (squareOf F n es ms) sq same i j refl),
       )
 
--- what two known stations and their place say
-pub known-both : {X : Type 0} (n a b : ℕ) (x y : X) → Ok x ≡ known n a (known n b (Ok y)) → (a < n) × (b < n) × (x ≡ y)
-known-both {X} n a b x y h = elim (cases-bool (ltb a n)) [
+-- what a checked place says
+pub record Checked (F : Graph) (n : ℕ) (xs : List ℕ) (entries marks a b : ℕ) (o : Option ℕ) : Type 0 where
+  pub first : a < n
+  pub second : b < n
+  pub entries-long : places F n ≤ entries
+  pub marks-long : places F n ≤ marks
+  pub place : o ≡ placeOfStations F n xs a b
+
+pub checked : (F : Graph) (n : ℕ) (xs : List ℕ) (entries marks a b : ℕ) (o : Option ℕ) → Ok o ≡ checkedPlace F n xs entries marks a b → Checked F n xs entries marks a b o
+checked F n xs entries marks a b o h = elim (cases-bool (ltb a n)) [
+  | inr f ↦ (let e : Ok o ≡ Err (at 15 a) = simp f at h in let z : _≡_ {A = ℕ} 0 1 = cc in absurd (omega arith))
   | inl s ↦ elim (cases-bool (ltb b n)) [
-    | inl t ↦ (let e : Ok x ≡ Ok y = simp (s, t) at h in (ltb-true a n s, ltb-true b n t, cc))
-    | inr f ↦ (let e : Ok x ≡ Err (at 15 b) = simp (s, f) at h in let z : _≡_ {A = ℕ} 0 1 = cc in absurd (omega arith))
+    | inr f ↦ (let e : Ok o ≡ Err (at 15 b) = simp (s, f) at h in let z : _≡_ {A = ℕ} 0 1 = cc in absurd (omega arith))
+    | inl t ↦ elim (cases-bool (ltb entries (places F n) || ltb marks (places F n))) [
+      | inl f ↦ (let e : Ok o ≡ Err (at 17 (places F n)) = simp (s, t, f) at h in let z : _≡_ {A = ℕ} 0 1 = cc in absurd (omega arith))
+      | inr u ↦
+          (let e : Ok o ≡ Ok (placeOfStations F n xs a b) = simp (s, t, u) at h in
+          record { first = ltb-true a n s; second = ltb-true b n t; entries-long = grind (arith, tells); marks-long = grind (arith, tells); place = cc })
+    ]
   ]
-  | inr f ↦ (let e : Ok x ≡ Err (at 15 a) = simp f at h in let z : _≡_ {A = ℕ} 0 1 = cc in absurd (omega arith))
 ]
 
 pub place-within : {E : Type 0} (F : Graph) (n : ℕ) (xs : List ℕ) (a b : ℕ) (es : List E) (ms : List ℕ) (o : Option ℕ) → o ≡ placeOfStations F n xs a b → Room F n es ms → Within (length es) (length ms) o
@@ -127,3 +140,10 @@ by-square {E} K F n xs stage k sq P es ms closed h agrees = (
   where
     same : (i j : ℕ) → squareOf F n es ms i j ≡ sq i j
     same = square-agrees F n es ms sq (only-places K F n xs stage k sq P closed h) agrees
+
+-- a pivot that was made could be made
+pub pivot-made : {E : Type 0} (K : Kind E) (k : ℕ) (o : Option E) (x : Unit {0}) → Ok x ≡ pivotOutcome K k o → pivotal K o ≡ true
+pivot-made K k o x h = elim (cases-bool (pivotal K o)) [
+  | inl t ↦ t
+  | inr f ↦ (let e : Ok x ≡ Err (at 19 k) = simp f at h in let z : _≡_ {A = ℕ} 0 1 = cc in absurd (omega arith))
+]

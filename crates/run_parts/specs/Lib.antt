@@ -4,5 +4,6 @@ pub mod Tables
 pub mod Parts
 pub mod Outcomes
 pub mod Histories
+pub mod Places
 pub mod Views
 pub mod Laws

@@ -33,6 +33,10 @@ abbrev pub placed : ℕ → ℕ → Option ℕ → Result (Unit {0}) Fault
 placed a b None = Err (at 18 (max a b))
 placed a b (Some p) = Ok tt
 
+-- the place of two stations, if they have one: first the stations, then the lengths of the tables
+abbrev pub checkedPlace : Graph → ℕ → List ℕ → ℕ → ℕ → ℕ → ℕ → Result (Option ℕ) Fault
+checkedPlace F n xs entries marks a b = known n a (known n b (roomy (places F n) entries marks (Ok (placeOfStations F n xs a b))))
+
 -- a put, by the lengths of the tables and the two stations
 abbrev pub putOutcome : Graph → ℕ → List ℕ → ℕ → ℕ → ℕ → ℕ → Result (Unit {0}) Fault
 putOutcome F n xs entries marks a b = known n a (known n b (roomy (places F n) entries marks (placed a b (placeOfStations F n xs a b))))
@@ -56,13 +60,15 @@ abbrev pub putPlaces : {X : Type 0} → List ℕ → ℕ → ℕ → Result X Fa
 putPlaces xs a b (Ok x) P = λ i j. P i j || single (rowOf xs a b) (columnOf xs a b) i j
 putPlaces xs a b (Err f) P = P
 
+-- a pivot, by what the diagonal place holds: made, or refused by 19 at its position
+abbrev pub pivotOutcome : {E : Type 0} → Kind E → ℕ → Option E → Result (Unit {0}) Fault
+pivotOutcome K k held = cond (pivotal K held) (Ok tt) (Err (at 19 k))
+
 -- a step, by the length needed, the lengths of the tables, n, the pivots made, and what the next diagonal place holds:
 -- 17, else finished exactly if n pivots are made, else the pivot is made or refused by 19
 abbrev pub stepOutcome : {E : Type 0} → Kind E → ℕ → ℕ → ℕ → ℕ → ℕ → Option E → Result Step Fault
 stepOutcome K need entries marks n made held =
-    cond (ltb entries need || ltb marks need) (Err (at 17 need))
-    (cond (eqb made n) (Ok Finished)
-    (cond (pivotal K held) (Ok Made) (Err (at 19 made))))
+    roomy need entries marks (cond (eqb made n) (Ok Finished) (cond (pivotal K held) (Ok Made) (Err (at 19 made))))
 
 -- whether a pivot was made
 abbrev pub isMade : Result Step Fault → Bool

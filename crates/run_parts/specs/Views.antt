@@ -2,29 +2,18 @@
 use mathlib.Core.List.{List}
 use Prim.Native.Nat.{ℕ}
 use denote.Ref.{now}
-use Rattle.std.specs.declared.option.Option.{Option}
 use Rattle.std.specs.declared.result.Result.{Result}
 use Rattle.std.specs.declared.result.Result.the-variants.{Ok, Err}
 use Rattle.network.specs.Refusals.{Fault, told}
 use Rattle.network.specs.declared.refusal.Refusal.{Refusal}
 use Rattle.elimination.specs.Graphs.{Graph}
 use Rattle.plan_parts.specs.declared.reserve.Reserve.{Reserve}
-use Rattle.plan_parts.specs.Layout.{places}
 use Rattle.plan_parts.specs.ReserveView.{filledIn, orderIn, sizeIn}
-use Rattle.plan_parts.specs.Reserves.{placeOfStations}
 use Rattle.run_parts.specs.declared.states.Loading.{Loading}
 use Rattle.run_parts.specs.Kinds.{Kind}
 use Rattle.run_parts.specs.Square.{Square}
 use Rattle.run_parts.specs.Tables.{squareOf}
 use Rattle.run_parts.specs.Histories.{Stage, RunHistory, Agrees}
-
--- how many places a reserve has
-abbrev pub placesIn : Reserve → ℕ
-placesIn r = places (filledIn r) (sizeIn r)
-
--- the place of two stations in a reserve, or none
-abbrev pub placeIn : Reserve → ℕ → ℕ → Option ℕ
-placeIn r a b = placeOfStations (filledIn r) (sizeIn r) (orderIn r) a b
 
 -- what a start answered: the reserve that the loading state reads, or what the refusal tells
 abbrev pub loaded : {E : Type 0} → Result (Loading E) Refusal → Result Reserve Fault

@@ -1,7 +1,8 @@
 //! Kinds of entry: the three functions that a pivot needs, and the two kinds that are delivered.
 //! Nothing more is asked of a kind, and every promise holds for every kind.
 ghost use mathlib.Core.Path.{_≡_};
-ghost use mathlib.Core.Bool.{Bool, true};
+ghost use mathlib.Core.Bool.{Bool, false, true};
+ghost use lib.Ieee.{inf};
 ghost use Rattle.run_parts.specs.Kinds.{levelFirst, levelMore, levelUsable, minutesFirst, minutesMore};
 
 /// A kind of entry. The ghost members say what its functions answer.
@@ -25,6 +26,13 @@ pub trait Entry: Copy {
         ensures { λ r. ⌜ r ≡ more self left pivot right ⌝ };
 }
 
+/// Above every level that is usable.
+fn infinity() -> f64
+    ensures { λ r. ⌜ r ≡ inf false ⌝ }
+{
+    f64::INFINITY
+}
+
 /// A level. Every NaN counts as the same entry.
 #[derive(Clone, Copy)]
 pub struct Level(pub f64);
@@ -37,7 +45,7 @@ pub impl Entry for Level as LevelEntry {
     ghost more = { λ old left pivot right. record { 0 = levelMore (old .0) (left .0) (pivot .0) (right .0) } };
 
     fn is_usable(self) -> bool {
-        0.0 < self.0 && self.0 < f64::INFINITY
+        0.0 < self.0 && self.0 < infinity()
     }
 
     fn first_of(left: Level, pivot: Level, right: Level) -> Level {

@@ -8,10 +8,11 @@ ghost use lib.ListN.{getD, length, set};
 ghost use Rattle.std.specs.Vec.{made};
 ghost use Rattle.std.specs.declared.result.Result.the-variants.{Ok};
 ghost use Rattle.network.specs.Refusals.{outcome};
-ghost use Rattle.plan_parts.specs.ReserveView.{filledIn, sizeIn};
+ghost use Rattle.plan_parts.specs.ReserveView.{filledIn, orderIn, sizeIn};
 ghost use Rattle.run_parts.specs.Kinds.{kind};
-ghost use Rattle.run_parts.specs.Outcomes.{roomy};
+ghost use Rattle.run_parts.specs.Outcomes.{checkedPlace, roomy};
 ghost use Rattle.run_parts.specs.Square.{taken};
+ghost use Rattle.run_parts.specs.Places.{placesIn};
 ghost use Rattle.run_parts.specs.Tables.{Room, Within, entryAt, entryOf, squareOf, zeroed};
 use crate::kinds::Entry;
 use network::Refusal;
@@ -26,6 +27,21 @@ pub(crate) fn check_room<E: Entry>(need: usize, entries: &[E], marks: &[u8]) -> 
         return Err(Refusal::TableTooShort(need));
     }
     Ok(())
+}
+
+/// The place of two stations, if they have one, once both stations are known and the tables have room.
+pub(crate) fn checked_place<E: Entry>(
+    reserve: &Reserve,
+    entries: &[E],
+    marks: &[u8],
+    a: u16,
+    b: u16,
+) -> Result<Option<usize>, Refusal>
+    ensures { λ r. ⌜ outcome r ≡ checkedPlace (filledIn (now (reserve .entry))) (sizeIn (now (reserve .entry))) (orderIn (now (reserve .entry))) (length (now (entries .entry))) (length (now (marks .entry))) a b ⌝ }
+{
+    let place = reserve.place(a, b)?;
+    check_room(reserve.length(), entries, marks)?;
+    Ok(place)
 }
 
 /// What the tables hold at a place, if there is one.
@@ -91,11 +107,19 @@ pub(crate) fn store<E: Entry>(entries: &mut [E], marks: &mut [u8], p: usize, val
 }
 
 /// Zeroes the first `n` marks.
-pub(crate) fn clear(marks: &mut [u8], n: usize)
+fn clear(marks: &mut [u8], n: usize)
     requires { ⌜ n ≤ length (now marks) ⌝ }
     ensures { λ _. ⌜ now (marks .exit) ≡ zeroed n (now (marks .entry)) ⌝ }
 {
     for p in 0..n {
         marks[p] = 0;
     }
+}
+
+/// Zeroes the marks of all places of a reserve.
+pub(crate) fn clear_places(reserve: &Reserve, marks: &mut [u8])
+    requires { ⌜ placesIn (now reserve) ≤ length (now marks) ⌝ }
+    ensures { λ _. ⌜ now (marks .exit) ≡ zeroed (placesIn (now (reserve .entry))) (now (marks .entry)) ⌝ }
+{
+    clear(marks, reserve.length());
 }

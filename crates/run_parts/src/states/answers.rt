@@ -8,7 +8,7 @@ ghost use Rattle.run_parts.specs.Outcomes.{entryOutcome};
 ghost use Rattle.run_parts.specs.Views.{Goes-on};
 use super::Ended;
 use crate::kinds::Entry;
-use crate::tables::check_room;
+use crate::tables::checked_place;
 use crate::tables::entry_at;
 use network::Refusal;
 
@@ -26,8 +26,7 @@ impl<'r, E: Entry> Ended<'r, E> {
         ensures value { λ r. ⌜ outcome r ≡ entryOutcome (filledIn (now (now (self .entry) .reserve))) (sizeIn (now (now (self .entry) .reserve))) (orderIn (now (now (self .entry) .reserve))) (now (entries .entry)) (now (marks .entry)) a b ⌝ }
         ensures history { λ r. ⌜ Goes-on (kind (E·Entry .usable) (E·Entry .first) (E·Entry .more)) (now (now (self .entry) .reserve)) ended (now (self .entry) .pivots) (now (entries .entry)) (now (marks .entry)) (now (self .entry) .pivots) (now (entries .entry)) (now (marks .entry)) (λ sq. sq) (λ put. put) ⌝ }
     {
-        let place = self.reserve.place(a, b)?;
-        check_room(self.reserve.length(), entries, marks)?;
+        let place = checked_place(self.reserve, entries, marks, a, b)?;
         Ok(entry_at(entries, marks, place))
     }
 }

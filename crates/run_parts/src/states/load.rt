@@ -8,14 +8,16 @@ ghost use Rattle.plan_parts.specs.ReserveView.{filledIn, orderIn, sizeIn};
 ghost use Rattle.run_parts.specs.Histories.Stage.{loading, running};
 ghost use Rattle.run_parts.specs.Kinds.{kind};
 ghost use Rattle.run_parts.specs.Outcomes.{cleared, putOutcome, putPlaces, putSquare, roomy, stored};
+ghost use Rattle.run_parts.specs.Places.{placeIn, placesIn};
 ghost use Rattle.run_parts.specs.Square.{empty};
-ghost use Rattle.run_parts.specs.Views.{Goes-on, History, Hold, Turns, loaded, placeIn, placesIn};
+ghost use Rattle.run_parts.specs.Views.{Goes-on, History, Hold, Turns, loaded};
 ghost use mathlib.Core.Bool.{false};
 use super::Loading;
 use super::Running;
 use crate::kinds::Entry;
 use crate::tables::check_room;
-use crate::tables::clear;
+use crate::tables::checked_place;
+use crate::tables::clear_places;
 use crate::tables::store;
 use network::Refusal;
 use plan_parts::Reserve;
@@ -32,11 +34,10 @@ pub fn start<'r, E: Entry>(
     ensures marks { λ r. ⌜ now (marks .exit) ≡ cleared (loaded r) (placesIn (now (reserve .entry))) (now (marks .entry)) ⌝ }
     ensures history { λ r. ⌜ made r (λ l. History (kind (E·Entry .usable) (E·Entry .first) (E·Entry .more)) (now (l .reserve)) loading 0 empty (λ i j. false) × Hold (now (l .reserve)) (now (entries .entry)) (now (marks .exit)) empty) ⌝ }
 {
-    let need = reserve.length();
-    if let Err(refusal) = check_room(need, entries, marks) {
+    if let Err(refusal) = check_room(reserve.length(), entries, marks) {
         return Err(refusal);
     }
-    clear(marks, need);
+    clear_places(reserve, marks);
     Ok(Loading {
         reserve,
         kind: PhantomData,
@@ -59,8 +60,7 @@ impl<'r, E: Entry> Loading<'r, E> {
         ensures marks { λ r. ⌜ now (marks .exit) ≡ stored (outcome r) (placeIn (now (now (self .entry) .reserve)) a b) 1 (now (marks .entry)) ⌝ }
         ensures history { λ r. ⌜ Goes-on (kind (E·Entry .usable) (E·Entry .first) (E·Entry .more)) (now (now (self .entry) .reserve)) loading 0 (now (entries .entry)) (now (marks .entry)) 0 (now (entries .exit)) (now (marks .exit)) (putSquare (orderIn (now (now (self .entry) .reserve))) a b value (outcome r)) (putPlaces (orderIn (now (now (self .entry) .reserve))) a b (outcome r)) ⌝ }
     {
-        let place = self.reserve.place(a, b)?;
-        check_room(self.reserve.length(), entries, marks)?;
+        let place = checked_place(self.reserve, entries, marks, a, b)?;
         let Some(p) = place else {
             return Err(Refusal::NoPlace(a.max(b)));
         };
@@ -75,10 +75,18 @@ impl<'r, E: Entry> Loading<'r, E> {
         ensures history { λ r. ⌜ Turns (kind (E·Entry .usable) (E·Entry .first) (E·Entry .more)) (now (self .entry .reserve)) loading 0 running (r .made) ⌝ }
     {
         let Loading { reserve, kind } = self;
-        Running {
-            reserve,
-            made: 0,
-            kind,
-        }
+        fresh(reserve, kind)
+    }
+}
+
+/// A run that has made no pivot.
+fn fresh<E>(reserve: &Reserve, kind: PhantomData<E>) -> Running<'_, E>
+    ensures reserve { λ r. ⌜ now (r .reserve) ≡ now (reserve .entry) ⌝ }
+    ensures made { λ r. ⌜ r .made ≡ 0 ⌝ }
+{
+    Running {
+        reserve,
+        made: 0,
+        kind,
     }
 }

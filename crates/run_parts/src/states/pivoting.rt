@@ -1,22 +1,24 @@
 //! How a run makes its pivots, one for each step, and ends.
 ghost use mathlib.Core.Path.{_≡_};
 ghost use mathlib.Core.Bool.{cond};
-ghost use Prim.Native.Nat.{_+_};
+ghost use Prim.Native.Nat.{_+_, _<_};
 ghost use lib.ListN.{length};
 ghost use Rattle.network.specs.Refusals.{outcome};
 ghost use Rattle.plan_parts.specs.ReserveView.{filledIn, sizeIn};
 ghost use Rattle.run_parts.specs.Histories.Stage.{ended, running};
 ghost use Rattle.run_parts.specs.Kinds.{kind};
 ghost use Rattle.run_parts.specs.Outcomes.{isMade, stepEntries, stepMarks, stepOutcome, stepSquare};
-ghost use Rattle.run_parts.specs.Views.{Goes-on, Turns, placesIn, tableSquare};
+ghost use Rattle.run_parts.specs.Places.{placesIn};
+ghost use Rattle.run_parts.specs.Views.{Goes-on, Turns, tableSquare};
 use super::Ended;
 use super::Running;
 use super::Step;
 use crate::kinds::Entry;
-use crate::pivots::eliminate;
+use crate::pivots::make_pivot;
 use crate::tables::check_room;
-use crate::tables::held;
 use network::Refusal;
+use plan_parts::Reserve;
+use std::marker::PhantomData;
 
 impl<'r, E: Entry> Running<'r, E> {
     /// Makes the next pivot in the order, or says that all are made. Refused by 17, and by 19 where the pivot is empty or
@@ -33,15 +35,8 @@ impl<'r, E: Entry> Running<'r, E> {
         if self.made == self.reserve.size() {
             return Ok(Step::Finished);
         }
-        let k = self.made as usize;
-        let Some(pivot) = held(self.reserve, entries, marks, k, k) else {
-            return Err(Refusal::UnusablePivot(self.made));
-        };
-        if !pivot.is_usable() {
-            return Err(Refusal::UnusablePivot(self.made));
-        }
-        eliminate(self.reserve, entries, marks, k, pivot);
-        self.made += 1;
+        make_pivot(self.reserve, entries, marks, self.made)?;
+        self.count();
         Ok(Step::Made)
     }
 
@@ -56,10 +51,27 @@ impl<'r, E: Entry> Running<'r, E> {
             made,
             kind,
         } = self;
-        Ended {
-            reserve,
-            pivots: made,
-            kind,
-        }
+        ended_after(reserve, made, kind)
+    }
+
+    /// Counts one more pivot.
+    fn count(&mut self)
+        requires { ⌜ now self .made < sizeIn (now (now self .reserve)) ⌝ }
+        ensures reserve { λ _. ⌜ now (now (self .exit) .reserve) ≡ now (now (self .entry) .reserve) ⌝ }
+        ensures made { λ _. ⌜ now (self .exit) .made ≡ now (self .entry) .made + 1 ⌝ }
+    {
+        self.made += 1;
+    }
+}
+
+/// A run that ended after so many pivots.
+fn ended_after<E>(reserve: &Reserve, pivots: u16, kind: PhantomData<E>) -> Ended<'_, E>
+    ensures reserve { λ r. ⌜ now (r .reserve) ≡ now (reserve .entry) ⌝ }
+    ensures pivots { λ r. ⌜ r .pivots ≡ pivots ⌝ }
+{
+    Ended {
+        reserve,
+        pivots,
+        kind,
     }
 }

@@ -1,17 +1,12 @@
-use mathlib.Core.Path.{_≡_}
-use native.Mathlib.Omega.{arith}
+use lib.ListN.{length}
 use Rattle.plan_parts.specs.ReserveView.{filledIn, orderIn, sizeIn}
-use Rattle.run_parts.specs.Tables.{Room}
-use Rattle.run_parts.specs.Views.{placeIn}
-use Rattle.run_parts.proofs.Calls.{known-both, place-within}
+use Rattle.run_parts.proofs.Calls.{checked, place-within}
 use Rattle.run_parts.proofs.states.Ended.entry.Needs as need
 
 pub entry-at-requires : need.entry-at-requires
 entry-at-requires g c κs =
     let R = c .args .self .now .reserve .now in
-    let a = c .args .a in
-    let b = c .args .b in
-    let long = c .in-Continue-check-room .ensures tt .room in
-    let room : Room (filledIn R) (sizeIn R) (c .args .entries .now) (c .args .marks .now) = (omega (arith, long .0), omega (arith, long .1)) in
-    let known = known-both (sizeIn R) a b (c .in-Continue-place .place) (placeIn R a b) (c .in-Continue-place .ensures tt) in
-    place-within (filledIn R) (sizeIn R) (orderIn R) a b (c .args .entries .now) (c .args .marks .now) (c .in-Continue-place .place) (known .2) room
+    let es = c .args .entries .now in
+    let ms = c .args .marks .now in
+    let k = checked (filledIn R) (sizeIn R) (orderIn R) (length es) (length ms) (c .args .a) (c .args .b) (c .in-Continue-place .place) (c .in-Continue-place .ensures tt) in
+    place-within (filledIn R) (sizeIn R) (orderIn R) (c .args .a) (c .args .b) es ms (c .in-Continue-place .place) (k .place) (k .entries-long, k .marks-long)

@@ -1,6 +1,9 @@
-use mathlib.Core.Path.{refl}
 use Rattle.run_parts.specs.Histories.RunHistory.{finished}
 use Rattle.run_parts.proofs.states.Running.finish.Needs as need
 
 pub returns : need.returns
-returns g c = record { reserve = refl; pivots = refl; history = λ sq put h. finished h }
+returns g c = record {
+  reserve = c .ended-after .ensures .reserve;
+  pivots = c .ended-after .ensures .pivots;
+  history = λ sq put h. rw (c .ended-after .ensures .pivots) (finished h);
+}

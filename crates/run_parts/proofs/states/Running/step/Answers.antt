@@ -1,17 +1,16 @@
-use mathlib.Core.Path.{_≡_, refl, sym, ap, _∙_}
-use mathlib.Core.Bool.{true, false}
+use mathlib.Core.Path.{_≡_, sym, _∙_}
+use mathlib.Core.Bool.{true}
 use mathlib.Core.Logic.{_≢_}
 use Prim.Native.Nat.{_<_}
 use native.Mathlib.Omega.{arith}
 use lib.ListN.{length}
-use Rattle.std.specs.declared.option.Option.the-variants.{Some}
 use Rattle.std.proofs.shelf.Tests.{ne-eqb}
 use Rattle.plan_parts.specs.Layout.{places}
 use Rattle.plan_parts.specs.ReserveView.{filledIn, orderIn, sizeIn}
 use Rattle.run_parts.specs.Kinds.{kind}
 use Rattle.run_parts.specs.Square.{pivot, pivotal}
 use Rattle.run_parts.specs.Tables.{Room, squareOf}
-use Rattle.run_parts.proofs.Calls.{roomy-ok, step-goes}
+use Rattle.run_parts.proofs.Calls.{pivot-made, roomy-ok, step-goes}
 use Rattle.run_parts.proofs.Written.{entries-written, marks-written}
 use Rattle.run_parts.proofs.states.Running.step.Needs as need
 
@@ -28,15 +27,13 @@ returns g c =
     let room : Room F n es ms = (omega (arith, long .0), omega (arith, long .1)) in
     let lt : k < n = omega (arith, c .args .self .now .some) in
     let left : k ≢ n = omega arith in
-    let held : Some (c .in-Some .pivot) ≡ squareOf F n es ms k k = c .in-Some .ensures tt in
-    let fit : pivotal K (Some (c .in-Some .pivot)) ≡ true = sym (c .is-usable .ensures) ∙ c .if-not-is-usable .left in
-    let usable : pivotal K (squareOf F n es ms k k) ≡ true = sym (ap (pivotal K) held) ∙ fit in
-    let pivoted = c .eliminate .ensures in
+    let usable : pivotal K (squareOf F n es ms k k) ≡ true = pivot-made K k (squareOf F n es ms k k) _ (c .in-Continue-make-pivot .ensures tt .value) in
+    let pivoted = c .in-Continue-make-pivot .ensures tt .tables in
     record {
-      reserve = refl;
+      reserve = c .count .ensures .reserve;
       value = sym (roomy-ok (places F n) (length es) (length ms) _ (room .0) (room .1) ∙ simp (ne-eqb k n left, usable));
-      made = refl;
+      made = c .count .ensures .made;
       entries = entries-written F n (pivot K k (squareOf F n es ms)) es ms _ _ room (pivoted .kept) (pivoted .square);
       marks = marks-written F n (pivot K k (squareOf F n es ms)) es ms _ _ room (pivoted .kept) (pivoted .square);
-      history = λ sq put h agrees. step-goes K F n (orderIn R) (R .closed) es ms room _ _ sq put k lt usable pivoted h agrees;
+      history = λ sq put h agrees. rw (c .count .ensures .made) (step-goes K F n (orderIn R) (R .closed) es ms room _ _ sq put k lt usable pivoted h agrees);
     }

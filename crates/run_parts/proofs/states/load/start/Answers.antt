@@ -1,4 +1,4 @@
-use mathlib.Core.Path.{_≡_, sym, ap, _∙_, subst}
+use mathlib.Core.Path.{_≡_, sym, subst}
 use mathlib.Core.List.{List}
 use Prim.Native.Nat.{ℕ}
 use native.Mathlib.Omega.{arith}
@@ -6,8 +6,7 @@ use Rattle.plan_parts.specs.ReserveView.{filledIn, sizeIn}
 use Rattle.run_parts.specs.Histories.{Agrees}
 use Rattle.run_parts.specs.Histories.RunHistory.{started}
 use Rattle.run_parts.specs.Square.{empty}
-use Rattle.run_parts.specs.Tables.{Room, zeroed}
-use Rattle.run_parts.specs.Views.{placesIn}
+use Rattle.run_parts.specs.Tables.{Room}
 use Rattle.run_parts.proofs.Calls.{roomy-ok}
 use Rattle.run_parts.proofs.Zeroes.{zeroed-agrees}
 use Rattle.run_parts.proofs.states.load.start.Needs as need
@@ -19,9 +18,8 @@ returns g c =
     let ms = c .args .marks .now in
     let long = c .in-rest .ensures tt .room in
     let room : Room (filledIn R) (sizeIn R) es ms = (omega (arith, long .0), omega (arith, long .1)) in
-    let clear : c .clear .last .marks ≡ zeroed (placesIn R) ms = c .clear .ensures ∙ ap (λ (need : ℕ). zeroed need ms) (c .length-need .ensures .value) in
     record {
       value = sym (roomy-ok _ _ _ _ (room .0) (room .1));
-      marks = clear;
-      history = (started, subst (λ (xs : List ℕ). Agrees (filledIn R) (sizeIn R) es xs empty) (sym clear) (zeroed-agrees (filledIn R) (sizeIn R) es ms));
+      marks = c .clear-places .ensures;
+      history = (started, subst (λ (xs : List ℕ). Agrees (filledIn R) (sizeIn R) es xs empty) (sym (c .clear-places .ensures)) (zeroed-agrees (filledIn R) (sizeIn R) es ms));
     }

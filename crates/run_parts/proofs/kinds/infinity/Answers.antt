@@ -1,0 +1,7 @@
+use mathlib.Core.Path.{_≡_, refl}
+use lib.Ieee.{ofBits, ofFields}
+use Rattle.run_parts.proofs.kinds.infinity.Needs as need
+
+pub returns : need.returns
+unfolding ofBits ofFields
+returns c = refl
