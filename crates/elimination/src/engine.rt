@@ -29,7 +29,6 @@ fn without_spare(couplings: &PairSet, pairs: &PairSet, n: usize) -> PairSet
 }
 
 /// A minimal order within the fill of an order: spare fill pairs are dropped until none is left, and a perfect order of the rest is taken.
-/// Any station could be last in it; it keeps the one that is.
 pub fn tightened(couplings: &PairSet, pairs: &PairSet, order: &EliminationOrder) -> EliminationOrder
     requires some { ⌜ 1 ≤ now order .size ⌝ }
     requires simple { ⌜ Simple (now order .size) (graph (now couplings)) ⌝ }
@@ -39,6 +38,7 @@ pub fn tightened(couplings: &PairSet, pairs: &PairSet, order: &EliminationOrder)
     ensures minimal { λ r. ⌜ Minimal (now (order .entry) .size) (graph (now (couplings .entry))) (listed r) ⌝ }
 {
     let size = order.size();
+    // Any station can be last: the one that is stays.
     let last = order.station(size - 1);
     let tight = without_spare(couplings, pairs, size as usize);
     perfect_order(&tight, size, last)
