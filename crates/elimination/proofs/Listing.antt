@@ -12,7 +12,7 @@ use Rattle.std.specs.declared.option.Option.{Option}
 use Rattle.std.specs.declared.option.Option.the-variants.{Some, None}
 use Rattle.std.specs.Options.{isSome}
 use Rattle.std.specs.shelf.Lists.{kept-by}
-use Rattle.std.proofs.shelf.Tests.{both-ways, cases-bool, cases-eq, eq-eqb, eqb-true, ne-eqb, lt-ltb, ltb-true, le-leb, leb-true, and-parts, and-from, not-true, not-from-false, cond-true, cond-false}
+use Rattle.std.proofs.shelf.Tests.{both-ways, cases-bool, cases-eq, cases-order, eq-eqb, eqb-true, ne-eqb, lt-ltb, ltb-true, le-leb, leb-true, and-parts, and-from, not-true, not-from-false, cond-true, cond-false}
 use Rattle.network.specs.Refusals.{firstFault, refuse}
 use Rattle.network.specs.Orders.{orderFault, stationFault, among}
 use Rattle.network.proofs.Faults.{cond-none, each-none, no-fault}
@@ -50,6 +50,12 @@ distinct-apart (x ∷ xs) d (suc j) (suc k) l h q = distinct-apart xs (d .1) j k
 pub apart-distinct : (xs : List ℕ) → Apart xs → Distinct xs
 apart-distinct [] f = tt
 apart-distinct (x ∷ xs) f = ((λ i. let r = index-of xs x i in f 0 (suc (r .0)) (omega arith) (omega (arith, r .1)) (sym (r .2))), apart-distinct xs (λ j k l h. f (suc j) (suc k) (omega arith) (omega arith)))
+
+pub same-place : (xs : List ℕ) → Distinct xs → (j k : ℕ) → j < length xs → k < length xs → getD xs j 0 ≡ getD xs k 0 → j ≡ k
+same-place xs d j k hj hk q =
+    ⊎-elim (λ (e : j ≡ k). e)
+    (⊎-elim (λ (l : j < k). absurd (distinct-apart xs d j k l hk q)) (λ (l : k < j). absurd (distinct-apart xs d k j l hj (sym q))))
+    (cases-order j k)
 
 pub position-of : (xs : List ℕ) (k : ℕ) → Distinct xs → k < length xs → positionOf xs (getD xs k 0) ≡ k
 position-of [] k d h = absurd (let no : ⊥ = omega arith in no)
