@@ -106,7 +106,7 @@ module _ (C G : Graph) (u : ℕ) where
       row i =
           let t : SpareIn G u b = subst (λ (x : ℕ). SpareIn G x b) i (spare-from 512 G a b below s) in
           at b (p i) (sym (ap (λ (x : ℕ). G x b) i) ∙ h) (sym (ap (λ (x : ℕ). C x b) i) ∙ k) t
-          (λ lt. f a b (λ _. lt) (λ j. (let e : b ≡ u = j in let e2 : a ≡ b = i ∙ sym j in omega arith)) h k ma mb s)
+          (λ lt. f a b (λ _. lt) (λ j. (let e : b ≡ u = j in let eb : a ≡ b = i ∙ sym j in omega arith)) h k ma mb s)
 
       column : (a ≡ u → ⊥) → b ≡ u → ⊥
       column na j =

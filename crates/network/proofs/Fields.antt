@@ -176,12 +176,12 @@ pub field-three : (bs : List ℕ) (j : ℕ) → getD bs j 0 < 2 ^ 8 → getD bs 
 field-three bs j h m l =
     let p1 : 8 * j + 8 ≡ 8 * (j + 1) = omega arith in
     let p2 : 8 * j + 16 ≡ 8 * (j + 2) = omega arith in
-    let e1 = field-append bs (8 * j) 16 8 in
-    let e2 = field-append bs (8 * j) 8 8 in
+    let ea = field-append bs (8 * j) 16 8 in
+    let eb = field-append bs (8 * j) 8 8 in
     omega (
       arith,
-      e1,
-      e2,
+      ea,
+      eb,
       field-byte bs j h,
       field-byte bs (j + 1) m,
       field-byte bs (j + 2) l,

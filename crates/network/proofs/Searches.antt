@@ -65,10 +65,10 @@ key-next bs n m h k lt =
     let w = width n in
     let says = pair-says bs n w (suc k) (stands-pairs bs n m h (suc k) lt) in
     let small : valueAt bs w (2 * k + 1) < 512 = value-small bs w (2 * k + 1) (width-few n .1) in
-    let e1 : 2 * suc k - 2 ≡ 2 * k = omega arith in
-    let e2 : 2 * suc k - 1 ≡ 2 * k + 1 = omega arith in
+    let ea : 2 * suc k - 2 ≡ 2 * k = omega arith in
+    let eb : 2 * suc k - 1 ≡ 2 * k + 1 = omega arith in
     ⊎-elim (λ z. let q : suc k ≡ 0 = eqb-true (suc k) 0 z in absurd (omega arith))
-    (λ b. before-key _ _ _ _ small (rw (e1, e2) at b))
+    (λ b. before-key _ _ _ _ small (rw (ea, eb) at b))
     (or-cases (eqb (suc k) 0) _ (says .2))
 
 pub key-less : (bs : List ℕ) (n m : ℕ) → Stands bs n m → (j k : ℕ) → j < k → k < m → keyAt bs (width n) j < keyAt bs (width n) k

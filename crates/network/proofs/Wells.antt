@@ -74,11 +74,11 @@ well-in bs h =
       rising = λ k lt.
           let hj : k < m = omega arith in
           let hk : suc k < m = omega arith in
-          let e1 : 2 * suc k - 2 ≡ 2 * k = omega arith in
-          let e2 : 2 * suc k - 1 ≡ 2 * k + 1 = omega arith in
+          let ea : 2 * suc k - 2 ≡ 2 * k = omega arith in
+          let eb : 2 * suc k - 1 ≡ 2 * k + 1 = omega arith in
           ap₂ (λ (x y : ℕ). before x y (pairAt s (suc k) .0) (pairAt s (suc k) .1)) (p0 k hj) (p1 k hj)
           ∙ ap₂ (λ (x y : ℕ). before (valueAt bs w (2 * k)) (valueAt bs w (2 * k + 1)) x y) (p0 (suc k) hk) (p1 (suc k) hk)
-          ∙ ⊎-elim (λ z. let q : suc k ≡ 0 = eqb-true (suc k) 0 z in absurd (omega arith)) (λ b. rw (e1, e2) at b)
+          ∙ ⊎-elim (λ z. let q : suc k ≡ 0 = eqb-true (suc k) 0 z in absurd (omega arith)) (λ b. rw (ea, eb) at b)
           (or-cases (eqb (suc k) 0) _ (pair-says bs n w (suc k) (pair (suc k) hk) .2));
       whole = order-length bs n m ∙ sym sz;
       known = λ k lt. let hk : k < n = omega arith in omega (arith, station-is bs n m k hk, order-says bs n w (2 * m) k (station k hk) .0, sz);

@@ -4,7 +4,7 @@ use std::alloc::AllocError;
 use std::alloc::Global;
 
 /// The width of a station's field, by doubling.
-pub fn width(stations: u32) -> u32 {
+pub(crate) fn width(stations: u32) -> u32 {
     for w in 1..10u32 {
         if 1u32 << w >= stations {
             return w;
@@ -15,19 +15,19 @@ pub fn width(stations: u32) -> u32 {
 
 /// Bits, the first of them first.
 #[derive(Drop)]
-pub struct BitString {
+pub(crate) struct BitString {
     bits: Vec<bool>,
 }
 
 impl BitString {
-    pub fn new(heap: Global) -> Self {
+    pub(crate) fn new(heap: Global) -> Self {
         BitString {
             bits: Vec::new(heap),
         }
     }
 
     /// The bits of bytes, the most significant of each first.
-    pub fn of_bytes(heap: Global, bytes: &[u8]) -> Result<Self, AllocError> {
+    pub(crate) fn of_bytes(heap: Global, bytes: &[u8]) -> Result<Self, AllocError> {
         let mut all = BitString::new(heap);
         for byte in bytes {
             all.push(8, u32::from(*byte))?;
@@ -36,7 +36,7 @@ impl BitString {
     }
 
     /// One field more, the highest bit of the value first.
-    pub fn push(&mut self, width: u32, value: u32) -> Result<(), AllocError> {
+    pub(crate) fn push(&mut self, width: u32, value: u32) -> Result<(), AllocError> {
         for i in 0..width {
             let bit = value
                 .checked_shr(width.wrapping_sub(i).wrapping_sub(1))
@@ -47,7 +47,7 @@ impl BitString {
     }
 
     /// The field of `width` bits from `at` on, where all of it is there.
-    pub fn field(&self, at: usize, width: u32) -> Option<u32> {
+    pub(crate) fn field(&self, at: usize, width: u32) -> Option<u32> {
         let mut value = 0u32;
         for i in 0..width {
             let bit = self.bits.get(at.wrapping_add(i as usize))?;
@@ -56,12 +56,12 @@ impl BitString {
         Some(value)
     }
 
-    pub fn len(&self) -> usize {
+    pub(crate) fn len(&self) -> usize {
         self.bits.len()
     }
 
     /// The bits in bytes, with zero bits at the end.
-    pub fn bytes(&self, heap: Global) -> Result<Vec<u8>, AllocError> {
+    pub(crate) fn bytes(&self, heap: Global) -> Result<Vec<u8>, AllocError> {
         let mut all = Vec::new(heap);
         let mut byte = 0u8;
         let mut filled = 0u32;
@@ -85,7 +85,7 @@ impl BitString {
 }
 
 /// The bytes of a sheet, whatever it says.
-pub fn sheet(
+pub(crate) fn sheet(
     heap: Global,
     n: u32,
     pairs: &[(u32, u32)],
@@ -177,7 +177,7 @@ fn judge_order(
 }
 
 /// What reading the bytes as a sheet has to answer: nothing, or the refusal as number and place.
-pub fn judge(heap: Global, bytes: &[u8]) -> Result<Result<(), (u16, usize)>, AllocError> {
+pub(crate) fn judge(heap: Global, bytes: &[u8]) -> Result<Result<(), (u16, usize)>, AllocError> {
     let bits = BitString::of_bytes(heap, bytes)?;
     let (n, m) = match judge_header(&bits) {
         Ok(counts) => counts,
