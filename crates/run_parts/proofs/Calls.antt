@@ -1,11 +1,11 @@
 -- How each call carries the histories of a run on, with tables that hold the square.
 use mathlib.Core.Path.{_≡_, refl, sym, ap, _∙_}
 use mathlib.Core.List.{List}
-use mathlib.Core.Bool.{Bool, true, false, cond, _||_}
-use mathlib.Core.Logic.{_⊎_, inl, inr}
-use Prim.Native.Nat.{ℕ, _+_, _<_, _≤_, max, min}
+use mathlib.Core.Bool.{true, cond, _||_}
+use mathlib.Core.Logic.{inl, inr}
+use Prim.Native.Nat.{ℕ, _+_, _<_, _≤_}
 use native.Mathlib.Omega.{arith}
-use lib.Dec.{eqb, ltb}
+use lib.Dec.{ltb}
 use lib.ListN.{length, getD, set, length-set}
 use Rattle.std.specs.Finite.{nth}
 use Rattle.std.specs.Options.{isSome}
@@ -26,7 +26,7 @@ use Rattle.run_parts.specs.Tables.{squareOf, entryAt, Room, Within}
 use Rattle.run_parts.specs.Parts.{Pivoted}
 use Rattle.run_parts.specs.Outcomes.{roomy, checkedPlace, putOutcome, pivotOutcome, stepOutcome}
 use Rattle.run_parts.specs.Laws.{Answers-are-those-of-the-square}
-use Rattle.run_parts.specs.Histories.{Stage, RunHistory, Agrees, rowOf, columnOf}
+use Rattle.run_parts.specs.Histories.{RunHistory, Agrees, rowOf, columnOf}
 use Rattle.run_parts.specs.Histories.Stage.{loading, running}
 use Rattle.run_parts.specs.Histories.RunHistory.{put, stepped}
 use Rattle.run_parts.proofs.Parts.{part-like, set-square, square-some, square-none, nth-some, cell-within}

@@ -1,30 +1,27 @@
 -- What holds of every history of a run, and how each call carries one on.
 use mathlib.Core.Path.{_≡_, refl, sym, ap, _∙_}
 use mathlib.Core.List.{List}
-use mathlib.Core.Bool.{Bool, true, false, cond, _&&_, _||_}
+use mathlib.Core.Bool.{true, false}
 use mathlib.Core.Logic.{_⊎_, inl, inr, ⊎-elim}
-use Prim.Native.Nat.{ℕ, zero, suc, _+_, _<_, _≤_, max, min}
+use Prim.Native.Nat.{ℕ, zero, suc, _<_, _≤_}
 use native.Mathlib.Omega.{arith}
-use lib.Dec.{eqb, ltb}
-use lib.ListN.{length, getD, set}
-use Rattle.std.specs.Finite.{nth}
+use lib.Dec.{eqb}
 use Rattle.std.specs.Options.{isSome}
-use Rattle.std.proofs.shelf.Tests.{cases-bool, cases-lt, cases-eq, and-parts, eqb-true, eqb-false, eq-eqb, ne-eqb, or-cases, both-ways}
+use Rattle.std.proofs.shelf.Tests.{cases-bool, cases-eq, and-parts, eqb-true, or-cases, both-ways}
 use Rattle.std.proofs.shelf.Ways.{tells}
 use Rattle.std.specs.declared.option.Option.{Option}
 use Rattle.std.specs.declared.option.Option.the-variants.{Some, None}
 use Rattle.elimination.specs.Graphs.{Graph}
-use Rattle.plan_parts.specs.Layout.{inColumn, places, placeOf, cell, Closed}
+use Rattle.plan_parts.specs.Layout.{inColumn, placeOf, cell, Closed}
 use Rattle.plan_parts.specs.ReserveLaws.{Grounded}
-use Rattle.plan_parts.proofs.Numbering.{cell-some, cell-below, column-le}
+use Rattle.plan_parts.proofs.Numbering.{cell-some, column-le}
 use Rattle.run_parts.specs.Kinds.{Kind}
-use Rattle.run_parts.specs.Square.{Square, empty, met, part, pivot, pivotal, single, withEntry, beyond}
-use Rattle.run_parts.specs.Tables.{squareOf, entryAt, Room, zeroed}
+use Rattle.run_parts.specs.Square.{Square, met, pivot, pivotal, single, beyond}
 use Rattle.run_parts.specs.Histories.{Stage, RunHistory, rowOf, columnOf}
 use Rattle.run_parts.specs.Laws.{AllPut, Runs-fill-exactly-the-places}
 use Rattle.run_parts.specs.Histories.Stage.{loading, running, ended}
 use Rattle.run_parts.specs.Histories.RunHistory.{started, put, put-first-unknown, put-second-unknown, put-short, put-without-place, begun, stepped, step-finished, step-short, step-unusable, finished, asked, asked-first-unknown, asked-second-unknown, asked-short}
-use Rattle.run_parts.proofs.Parts.{part-on, part-off, part-like, closed-cell, set-square}
+use Rattle.run_parts.proofs.Parts.{part-on, part-off, closed-cell}
 
 some-is : {A : Type 0} (o : Option A) → isSome o ≡ true → (x : A) × (o ≡ Some x)
 some-is None h = absurd (both-ways false refl h)

@@ -1,26 +1,26 @@
 -- Parts of a pivot, one after another; and what a write at one place does to the square.
-use mathlib.Core.Path.{_≡_, refl, sym, ap, _∙_, subst}
+use mathlib.Core.Path.{_≡_, refl, sym, ap, _∙_}
 use mathlib.Core.List.{List, [], _∷_}
-use mathlib.Core.Bool.{Bool, true, false, cond, not, _&&_, _||_}
-use mathlib.Core.Logic.{_⊎_, inl, inr, ⊎-elim, _≢_}
-use Prim.Native.Nat.{ℕ, zero, suc, _+_, _-_, _<_, _≤_, max, min}
+use mathlib.Core.Bool.{Bool, true, false, cond, _&&_, _||_}
+use mathlib.Core.Logic.{inl, inr, _≢_}
+use Prim.Native.Nat.{ℕ, zero, suc, _-_, _<_, _≤_}
 use native.Mathlib.Omega.{arith}
-use lib.Dec.{eqb, ltb}
+use lib.Dec.{eqb}
 use lib.ListN.{length, getD, set, length-set}
 use lib.Seq.{getD-set-same, getD-set-other}
 use Rattle.std.specs.Finite.{nth}
-use Rattle.std.proofs.shelf.Tests.{cases-bool, cases-lt, cases-eq, and-parts, and-from, ltb-true, lt-ltb, eq-eqb, ne-eqb, eqb-true, eqb-false, both-ways, and-cases}
+use Rattle.std.proofs.shelf.Tests.{cases-bool, cases-eq, and-parts, eq-eqb, ne-eqb, eqb-true}
 use Rattle.std.proofs.shelf.Maps.{nth-getD}
 use Rattle.std.proofs.shelf.Ways.{tells}
 use Rattle.std.specs.declared.option.Option.{Option}
 use Rattle.std.specs.declared.option.Option.the-variants.{Some, None}
 use Rattle.elimination.specs.Graphs.{Graph}
-use Rattle.plan_parts.specs.Layout.{inColumn, places, placeOf, cell, Closed}
+use Rattle.plan_parts.specs.Layout.{inColumn, cell, Closed}
 use Rattle.run_parts.specs.Kinds.{Kind}
-use Rattle.run_parts.specs.Square.{Square, taken, met, part}
+use Rattle.run_parts.specs.Square.{Square, met, part}
 use Rattle.run_parts.specs.Tables.{entryAt, entryOf, squareOf, Room, Within}
 use Rattle.run_parts.specs.Parts.{Kept}
-use Rattle.plan_parts.proofs.Numbering.{Spot, cell-some, cell-once, cell-below, cell-all, some-cell, column-le}
+use Rattle.plan_parts.proofs.Numbering.{Spot, cell-some, cell-once, cell-below, some-cell}
 
 -- a chosen place, and one that is not
 pub part-on : {E : Type 0} (K : Kind E) (k : ℕ) (D : ℕ → ℕ → Bool) (S : Square E) (a b : ℕ) → D a b ≡ true → part K k D S a b ≡ met K (S a b) (S a k) (S k k) (S b k)

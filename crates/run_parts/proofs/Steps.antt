@@ -1,25 +1,23 @@
 -- Parts of a pivot in the tables, one after another.
-use mathlib.Core.Path.{_≡_, refl, sym, ap, _∙_, subst}
-use mathlib.Core.List.{List, [], _∷_}
-use mathlib.Core.Bool.{Bool, true, false, cond, not, _&&_, _||_}
+use mathlib.Core.Path.{_≡_, refl, sym, _∙_}
+use mathlib.Core.List.{List}
+use mathlib.Core.Bool.{Bool, true, false, cond, _&&_, _||_}
 use mathlib.Core.Logic.{_⊎_, inl, inr, ⊎-elim, _≢_}
-use Prim.Native.Nat.{ℕ, zero, suc, _+_, _-_, _<_, _≤_}
+use Prim.Native.Nat.{ℕ, _+_, _-_, _<_, _≤_}
 use native.Mathlib.Omega.{arith}
-use lib.Dec.{eqb, ltb}
-use lib.ListN.{length, getD, set, length-set}
-use Rattle.std.specs.Finite.{nth}
-use Rattle.std.proofs.shelf.Tests.{cases-bool, cases-lt, cases-eq, and-parts, and-from, ltb-true, lt-ltb, eq-eqb, ne-eqb, eqb-true, eqb-false}
+use lib.Dec.{eqb}
+use lib.ListN.{length, getD, set}
+use Rattle.std.proofs.shelf.Tests.{cases-bool, cases-lt, cases-eq, and-parts, eqb-true}
 use Rattle.std.proofs.shelf.Ways.{tells}
-use Rattle.std.specs.declared.option.Option.{Option}
 use Rattle.std.specs.declared.option.Option.the-variants.{Some, None}
 use Rattle.elimination.specs.Graphs.{Graph}
-use Rattle.plan_parts.specs.Layout.{inColumn, places, cell, Closed}
+use Rattle.plan_parts.specs.Layout.{places, cell, Closed}
 use Rattle.plan_parts.specs.Reserves.{hasPlace}
 use Rattle.run_parts.specs.Kinds.{Kind}
-use Rattle.run_parts.specs.Square.{Square, taken, met, part, pivot, single, beyond}
-use Rattle.run_parts.specs.Tables.{entryAt, entryOf, squareOf, Room}
-use Rattle.run_parts.specs.Parts.{Kept, Pivoted, inOne, inUpTo}
-use Rattle.plan_parts.proofs.Numbering.{cell-some, cell-below, cell-out}
+use Rattle.run_parts.specs.Square.{Square, taken, met, part, single, beyond}
+use Rattle.run_parts.specs.Tables.{entryAt, squareOf, Room}
+use Rattle.run_parts.specs.Parts.{Pivoted, inOne, inUpTo}
+use Rattle.plan_parts.proofs.Numbering.{cell-below, cell-out}
 use Rattle.run_parts.proofs.Parts.{part-on, part-off, part-like, part-more, met-no-left, met-no-right, set-square, kept-same, kept-more, kept-set, held-cell, closed-cell, square-some, square-none}
 
 module _ {E : Type 0} (K : Kind E) (F : Graph) (n k : ℕ) where

@@ -1,14 +1,12 @@
 -- Marks that were set to 0 from the front.
-use mathlib.Core.Path.{_≡_, refl, sym, ap, _∙_}
+use mathlib.Core.Path.{_≡_, refl, ap}
 use mathlib.Core.List.{List, [], _∷_}
-use Prim.Native.Nat.{ℕ, zero, suc, _+_, _<_, _≤_}
+use Prim.Native.Nat.{ℕ, zero, suc, _+_, _<_}
 use native.Mathlib.Omega.{arith}
 use native.Mathlib.Numerals.{add-one}
-use lib.ListN.{length, getD, set}
-use Rattle.std.specs.declared.option.Option.{Option}
-use Rattle.std.specs.declared.option.Option.the-variants.{Some, None}
+use lib.ListN.{getD, set}
 use Rattle.elimination.specs.Graphs.{Graph}
-use Rattle.plan_parts.specs.Layout.{places, cell}
+use Rattle.plan_parts.specs.Layout.{places}
 use Rattle.plan_parts.proofs.Numbering.{cell-below}
 use Rattle.run_parts.specs.Square.{empty}
 use Rattle.run_parts.specs.Tables.{zeroed}

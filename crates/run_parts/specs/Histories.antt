@@ -1,13 +1,12 @@
 -- The histories of a run: all that its calls can come to, in any sequence, refused calls and questions included.
 use mathlib.Core.Path.{_≡_}
 use mathlib.Core.List.{List}
-use mathlib.Core.Bool.{Bool, true, false, _||_}
+use mathlib.Core.Bool.{true, false, _||_}
 use mathlib.Core.Logic.{_⊎_}
 use Prim.Native.Nat.{ℕ, _+_, _<_, _≤_, max, min}
 use lib.ListN.{getD}
 use Rattle.std.specs.Finite.{nth}
 use Rattle.std.specs.Options.{isSome}
-use Rattle.std.specs.declared.option.Option.{Option}
 use Rattle.std.specs.declared.option.Option.the-variants.{Some, None}
 use Rattle.elimination.specs.Graphs.{Graph}
 use Rattle.elimination.specs.Orders.{positionOf}

@@ -1,7 +1,6 @@
 -- The two tables of a run: entries, and a mark beside each. Mark 0 means empty, any other mark means held.
-use mathlib.Core.Path.{_≡_}
 use mathlib.Core.List.{List, [], _∷_}
-use mathlib.Core.Bool.{Bool, cond}
+use mathlib.Core.Bool.{cond}
 use Prim.Native.Nat.{ℕ, zero, suc, _<_, _≤_}
 use lib.Dec.{eqb}
 use lib.ListN.{length, getD, set}

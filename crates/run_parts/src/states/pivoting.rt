@@ -2,6 +2,7 @@
 ghost use mathlib.Core.Path.{_≡_};
 ghost use mathlib.Core.Bool.{cond};
 ghost use Prim.Native.Nat.{_+_, _<_};
+ghost use lib.Dec.{eqb};
 ghost use lib.ListN.{length};
 ghost use Rattle.network.specs.Refusals.{outcome};
 ghost use Rattle.plan_parts.specs.ReserveView.{filledIn, sizeIn};
@@ -32,7 +33,7 @@ impl<'r, E: Entry> Running<'r, E> {
         ensures history { λ r. ⌜ Goes-on (kind (E·Entry .usable) (E·Entry .first) (E·Entry .more)) (now (now (self .entry) .reserve)) running (now (self .entry) .made) (now (entries .entry)) (now (marks .entry)) (now (self .exit) .made) (now (entries .exit)) (now (marks .exit)) (stepSquare (kind (E·Entry .usable) (E·Entry .first) (E·Entry .more)) (now (self .entry) .made) (outcome r)) (λ put. put) ⌝ }
     {
         check_room(self.reserve.length(), entries, marks)?;
-        if self.made == self.reserve.size() {
+        if self.all_made() {
             return Ok(Step::Finished);
         }
         make_pivot(self.reserve, entries, marks, self.made)?;
@@ -52,6 +53,13 @@ impl<'r, E: Entry> Running<'r, E> {
             kind,
         } = self;
         ended_after(reserve, made, kind)
+    }
+
+    /// Whether n pivots are made.
+    fn all_made(&self) -> bool
+        ensures { λ r. ⌜ r ≡ eqb (now (self .entry) .made) (sizeIn (now (now (self .entry) .reserve))) ⌝ }
+    {
+        self.made == self.reserve.size()
     }
 
     /// Counts one more pivot.

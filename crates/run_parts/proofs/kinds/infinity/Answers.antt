@@ -1,4 +1,4 @@
-use mathlib.Core.Path.{_≡_, refl}
+use mathlib.Core.Path.{refl}
 use lib.Ieee.{ofBits, ofFields}
 use Rattle.run_parts.proofs.kinds.infinity.Needs as need
 

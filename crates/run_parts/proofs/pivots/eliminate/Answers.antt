@@ -1,4 +1,4 @@
-use mathlib.Core.Path.{_≡_, refl, sym, ap, _∙_}
+use mathlib.Core.Path.{_∙_}
 use native.Mathlib.Omega.{arith}
 use Rattle.run_parts.proofs.Steps.{column-none, column-more, column-skip, column-all, column-away}
 use Rattle.run_parts.proofs.pivots.eliminate.Needs as need

@@ -1,4 +1,4 @@
-use mathlib.Core.Path.{_≡_, refl, sym, ap, _∙_}
+use mathlib.Core.Path.{sym, _∙_}
 use native.Mathlib.Omega.{arith}
 use Rattle.plan_parts.proofs.Numbering.{cell-below}
 use Rattle.run_parts.specs.Kinds.{kind}

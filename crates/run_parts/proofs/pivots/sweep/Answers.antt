@@ -1,4 +1,4 @@
-use mathlib.Core.Path.{_≡_, refl, sym, ap, _∙_}
+use mathlib.Core.Path.{sym, _∙_}
 use native.Mathlib.Omega.{arith}
 use Rattle.run_parts.proofs.Steps.{row-none, row-more, row-skip, row-all, row-away, no-right}
 use Rattle.run_parts.proofs.pivots.sweep.Needs as need

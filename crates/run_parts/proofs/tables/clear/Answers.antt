@@ -1,5 +1,4 @@
-use native.Mathlib.Omega.{arith}
-use mathlib.Core.Path.{_≡_, refl, sym, ap, _∙_}
+use mathlib.Core.Path.{sym, ap, _∙_}
 use lib.ListN.{set}
 use Rattle.run_parts.proofs.Zeroes.{zeroed-none, zeroed-more}
 use Rattle.run_parts.proofs.tables.clear.Needs as need

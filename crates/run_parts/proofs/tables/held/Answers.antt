@@ -1,4 +1,4 @@
-use mathlib.Core.Path.{_≡_, refl, sym, ap, _∙_}
+use mathlib.Core.Path.{ap, _∙_}
 use Rattle.run_parts.specs.Tables.{squareOf, entryOf}
 use Rattle.run_parts.proofs.Parts.{cell-within}
 use Rattle.run_parts.proofs.tables.held.Needs as need
