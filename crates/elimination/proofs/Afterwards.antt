@@ -2,17 +2,17 @@
 use Rattle.std.proofs.Common.{◌≡◌, ℕ, zero, suc, ◌+◌, ◌-◌, ◌<◌, Bool, true, false, cond, not, ◌&&◌, eqb, List, [], ◌∷◌, length, get_or, drop, Some, None, Option, sym, refl, ap, ◌∙◌, add-one, arith, drop-cons}
 use Rattle.std.proofs.lemmas.Bool.{eq-eqb, ne_eqb, cond-true, cond-false, both_ways}
 use Rattle.network.specs.Bits.{count_to}
-use Rattle.elimination.specs.Elimination.{first_of, hangsFrom, howMany, or_else, beyond, pairsBelow}
+use Rattle.elimination.specs.Elimination.{first_of, hanging_from, how_many, or_else, beyond, pairs_below}
 use Rattle.elimination.specs.Graphs.{Graph, Sub}
 use Rattle.elimination.specs.Orders.{Distinct, later, last_of}
-use Rattle.elimination.proofs.Listing.{getD-in}
+use Rattle.elimination.proofs.Listing.{get_or-in}
 
 -- what comes after the station at k
 pub later-drop : (xs : List ℕ) (k : ℕ) → Distinct xs → k < length xs → later xs (get_or xs k 0) ≡ drop (k + 1) xs
 later-drop [] k d h = absurd (let no : ⊥ = omega arith in no)
 later-drop (x ∷ xs) zero d h = cond-true (eqb x x) xs (later xs x) (eq-eqb x x refl)
 later-drop (x ∷ xs) (suc k) d h =
-    cond-false (eqb x (get_or xs k 0)) xs (later xs (get_or xs k 0)) (ne_eqb x (get_or xs k 0) (λ q. d.0 (rw (sym q) at (getD-in xs k (omega arith)))))
+    cond-false (eqb x (get_or xs k 0)) xs (later xs (get_or xs k 0)) (ne_eqb x (get_or xs k 0) (λ q. d.0 (rw (sym q) at (get_or-in xs k (omega arith)))))
     ∙ later-drop xs k d.1 (omega arith) ∙ (let e : suc k + 1 ≡ suc (k + 1) = omega arith in sym (ap (λ (m : ℕ). drop m (x ∷ xs)) e))
 
 pub drop_more : (xs : List ℕ) (k : ℕ) → k < length xs → drop k xs ≡ get_or xs k 0 ∷ drop (k + 1) xs
@@ -37,11 +37,11 @@ module _ (p : ℕ → Bool) (xs : List ℕ) (k : ℕ) where
   pub first-none : k ≡ length xs → first_of p (drop k xs) ≡ None
   first-none e = ap (first_of p) (drop_all xs k e)
 
-  pub many_more : k < length xs → howMany p (drop k xs) ≡ cond (p (get_or xs k 0)) 1 0 + howMany p (drop (k + 1) xs)
-  many_more h = ap (howMany p) (drop_more xs k h)
+  pub many_more : k < length xs → how_many p (drop k xs) ≡ cond (p (get_or xs k 0)) 1 0 + how_many p (drop (k + 1) xs)
+  many_more h = ap (how_many p) (drop_more xs k h)
 
-  pub many-none : k ≡ length xs → howMany p (drop k xs) ≡ 0
-  many-none e = ap (howMany p) (drop_all xs k e)
+  pub many-none : k ≡ length xs → how_many p (drop k xs) ≡ 0
+  many-none e = ap (how_many p) (drop_all xs k e)
 
 last-at : (xs : List ℕ) → 0 < length xs → last_of xs ≡ Some (get_or xs (length xs - 1) 0)
 last-at [] h = absurd (let no : ⊥ = omega arith in no)
@@ -74,8 +74,8 @@ unfolding count_to
 count-split f c zero h = refl
 count-split f c (suc n) h = omega (arith, count-split f c n h, split (f n) (c n) (h n))
 
-pub pairs-split : (F C : Graph) (n : ℕ) → Sub C F → pairsBelow n (beyond F C) + pairsBelow n C ≡ pairsBelow n F
-unfolding pairsBelow
+pub pairs-split : (F C : Graph) (n : ℕ) → Sub C F → pairs_below n (beyond F C) + pairs_below n C ≡ pairs_below n F
+unfolding pairs_below
 pairs-split F C zero s = refl
 pairs-split F C (suc n) s = omega (arith, pairs-split F C n s, count-split (F n) (C n) n (s n))
 
@@ -85,11 +85,11 @@ module _ (F : Graph) (xs : List ℕ) (s k : ℕ) (d : Distinct xs) (h : k < leng
   pub rest-is : later xs s ≡ drop (k + 1) xs
   rest-is = ap (later xs) (sym q) ∙ later-drop xs k d h
 
-  hangs-by : hangsFrom F xs s ≡ or_else (first_of (F s) (drop (k + 1) xs)) (last_of (drop (k + 1) xs))
+  hangs-by : hanging_from F xs s ≡ or_else (first_of (F s) (drop (k + 1) xs)) (last_of (drop (k + 1) xs))
   hangs-by = ap (λ (ys : List ℕ). or_else (first_of (F s) ys) (last_of ys)) rest-is
 
-  pub hangs-first : (t : ℕ) → first_of (F s) (drop (k + 1) xs) ≡ Some t → Some t ≡ hangsFrom F xs s
+  pub hangs-first : (t : ℕ) → first_of (F s) (drop (k + 1) xs) ≡ Some t → Some t ≡ hanging_from F xs s
   hangs-first t f = sym (hangs-by ∙ ap (λ (o : Option ℕ). or_else o (last_of (drop (k + 1) xs))) f)
 
-  pub hangs-last : (o : Option ℕ) → first_of (F s) (drop (k + 1) xs) ≡ None → last_of (drop (k + 1) xs) ≡ o → o ≡ hangsFrom F xs s
+  pub hangs-last : (o : Option ℕ) → first_of (F s) (drop (k + 1) xs) ≡ None → last_of (drop (k + 1) xs) ≡ o → o ≡ hanging_from F xs s
   hangs-last o f l = sym (hangs-by ∙ ap (λ (o : Option ℕ). or_else o (last_of (drop (k + 1) xs))) f ∙ l)

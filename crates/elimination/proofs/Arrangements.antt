@@ -1,14 +1,14 @@
 -- The list of all orders, and the test of minimal orders over it.
 use Rattle.std.proofs.Common.{◌≡◌, ℕ, zero, suc, ◌<◌, Bool, true, false, not, ◌||◌, ◌⊎◌, List, [], ◌∷◌, ◌++◌, map, filter, sym, refl, ap, ◌∙◌, subst, inl, inr, ⊎_elim, arith}
 use Rattle.std.proofs.lemmas.Bool.{both_ways, cases_Bool, cases_eq, and_parts, and_from, or_left, or_right, or_cases, not-true, not_from_false}
-use Rattle.elimination.specs.AllOrders.{Listed, everyOrder, inserts, insertsEach, minimal, orders, within}
+use Rattle.elimination.specs.AllOrders.{Listed, every_order, inserts, inserts_each, minimal, orders, within}
 use Rattle.elimination.specs.Elimination.{Minimal, fill}
 use Rattle.elimination.specs.Graphs.{Graph, Simple, Sub, every}
 use Rattle.elimination.specs.Orders.{In, Distinct, Order, up_to}
-use Rattle.elimination.specs.Theorems.{Minimal-by-test, Orders-are-listed}
+use Rattle.elimination.specs.Theorems.{MinimalByTest, OrdersAreListed}
 use Rattle.elimination.proofs.Listing.{kept_same, order-without}
 use Rattle.elimination.proofs.Members.{but, but-self, but-other}
-use Rattle.elimination.proofs.Relations.{every_in, in-every, in-upTo}
+use Rattle.elimination.proofs.Relations.{every_in, in-every, in-up_to}
 use Rattle.elimination.proofs.Statements.{fill-parts, filled-simple}
 
 -- ---- lists of lists
@@ -37,16 +37,16 @@ map-listed y xs [] i = absurd i
 map-listed y xs (a ∷ ks) (inl q) = (a, q, inl refl)
 map-listed y xs (a ∷ ks) (inr m) = let t = map-listed y xs ks m in (t.0, t.1, inr t.2)
 
-each-listed : (x : ℕ) (xs ys : List ℕ) (yss : List (List ℕ)) → Listed ys yss → Listed xs (inserts x ys) → Listed xs (insertsEach x yss)
+each-listed : (x : ℕ) (xs ys : List ℕ) (yss : List (List ℕ)) → Listed ys yss → Listed xs (inserts x ys) → Listed xs (inserts_each x yss)
 each-listed x xs ys [] i j = absurd i
-each-listed x xs ys (zs ∷ yss) (inl q) j = listed-left xs (inserts x zs) (insertsEach x yss) (subst (λ (l : List ℕ). Listed xs (inserts x l)) q j)
-each-listed x xs ys (zs ∷ yss) (inr m) j = listed-right xs (inserts x zs) (insertsEach x yss) (each-listed x xs ys yss m j)
+each-listed x xs ys (zs ∷ yss) (inl q) j = listed-left xs (inserts x zs) (inserts_each x yss) (subst (λ (l : List ℕ). Listed xs (inserts x l)) q j)
+each-listed x xs ys (zs ∷ yss) (inr m) j = listed-right xs (inserts x zs) (inserts_each x yss) (each-listed x xs ys yss m j)
 
-listed-each : (x : ℕ) (xs : List ℕ) (yss : List (List ℕ)) → Listed xs (insertsEach x yss) → (ys : List ℕ) × Listed ys yss × Listed xs (inserts x ys)
+listed-each : (x : ℕ) (xs : List ℕ) (yss : List (List ℕ)) → Listed xs (inserts_each x yss) → (ys : List ℕ) × Listed ys yss × Listed xs (inserts x ys)
 listed-each x xs [] i = absurd i
 listed-each x xs (zs ∷ yss) i =
-    ⊎_elim (λ (k : Listed xs (inserts x zs)). (zs, inl refl, k)) (λ (k : Listed xs (insertsEach x yss)). let t = listed-each x xs yss k in (t.0, inr t.1, t.2))
-    (listed-parts xs (inserts x zs) (insertsEach x yss) i)
+    ⊎_elim (λ (k : Listed xs (inserts x zs)). (zs, inl refl, k)) (λ (k : Listed xs (inserts_each x yss)). let t = listed-each x xs yss k in (t.0, inr t.1, t.2))
+    (listed-parts xs (inserts x zs) (inserts_each x yss) i)
 
 -- ---- one station put in
 
@@ -112,19 +112,19 @@ listed-order zero xs (inl q) = subst (λ (l : List ℕ). Order 0 l) (sym q) (rec
 listed-order zero xs (inr m) = absurd m
 listed-order (suc n) xs i = let t = listed-each n xs (orders n) i in put_order n t.0 xs (listed-order n t.0 t.1) (put_in n t.0 xs t.2)
 
-pub orders-are-listed : Orders-are-listed
+pub orders-are-listed : OrdersAreListed
 orders-are-listed n xs = (order-listed n xs, listed-order n xs)
 
 -- ---- the test of minimal orders
 
-every-listed : (p : List ℕ → Bool) (xss : List (List ℕ)) → everyOrder p xss ≡ true → (xs : List ℕ) → Listed xs xss → p xs ≡ true
+every-listed : (p : List ℕ → Bool) (xss : List (List ℕ)) → every_order p xss ≡ true → (xs : List ℕ) → Listed xs xss → p xs ≡ true
 every-listed p [] e xs i = absurd i
-every-listed p (ys ∷ yss) e xs (inl q) = ap p q ∙ (and_parts (p ys) (everyOrder p yss) e).0
-every-listed p (ys ∷ yss) e xs (inr m) = every-listed p yss (and_parts (p ys) (everyOrder p yss) e).1 xs m
+every-listed p (ys ∷ yss) e xs (inl q) = ap p q ∙ (and_parts (p ys) (every_order p yss) e).0
+every-listed p (ys ∷ yss) e xs (inr m) = every-listed p yss (and_parts (p ys) (every_order p yss) e).1 xs m
 
-listed-every : (p : List ℕ → Bool) (xss : List (List ℕ)) → ((xs : List ℕ) → Listed xs xss → p xs ≡ true) → everyOrder p xss ≡ true
+listed-every : (p : List ℕ → Bool) (xss : List (List ℕ)) → ((xs : List ℕ) → Listed xs xss → p xs ≡ true) → every_order p xss ≡ true
 listed-every p [] f = refl
-listed-every p (ys ∷ yss) f = and_from (p ys) (everyOrder p yss) (f ys (inl refl)) (listed-every p yss (λ xs i. f xs (inr i)))
+listed-every p (ys ∷ yss) f = and_from (p ys) (every_order p yss) (f ys (inl refl)) (listed-every p yss (λ xs i. f xs (inr i)))
 
 module _ (n : ℕ) (F G : Graph) where
   within-to : Sub F G → within n F G ≡ true
@@ -138,12 +138,12 @@ module _ (n : ℕ) (F G : Graph) where
   within-from below e a b h =
       let l = below a b h in
       ⊎_elim (λ (t : not (F a b) ≡ true). absurd (both_ways (F a b) (not-true (F a b) t) h)) (λ (t : G a b ≡ true). t)
-      (or_cases (not (F a b)) (G a b) (every_in (λ b. not (F a b) || G a b) (up_to n) (every_in (λ a. every (λ b. not (F a b) || G a b) (up_to n)) (up_to n) e a (in-upTo n a l.0)) b (in-upTo n b l.1)))
+      (or_cases (not (F a b)) (G a b) (every_in (λ b. not (F a b) || G a b) (up_to n) (every_in (λ a. every (λ b. not (F a b) || G a b) (up_to n)) (up_to n) e a (in-up_to n a l.0)) b (in-up_to n b l.1)))
 
 fill-below : (n : ℕ) (C : Graph) → Simple n C → (xs : List ℕ) → Order n xs → (a b : ℕ) → fill C xs a b ≡ true → (a < n) × (b < n)
 fill-below n C s xs o a b h = (filled-simple n C s xs o).below a b (fill-parts C xs a b h).0
 
-pub minimal-by-test : Minimal-by-test
+pub minimal-by-test : MinimalByTest
 minimal-by-test n C xs s o = (from, to)
   where
     test : List ℕ → Bool

@@ -4,7 +4,7 @@ use mathlib.Core.Path.{fun_ext}
 use Rattle.std.proofs.lemmas.Bool.Decides.{nat_tests}
 use Rattle.std.proofs.lemmas.Bool.{both_ways, cases_Bool, cases_eq, cases_lt}
 use Rattle.elimination.specs.Elimination.{after, filled}
-use Rattle.elimination.specs.Graphs.{Graph, Simple, apart, around, including, pairsAt, union}
+use Rattle.elimination.specs.Graphs.{Graph, Simple, apart, around, including, pairs_at, union}
 use Rattle.elimination.specs.Orders.{Order}
 use Rattle.elimination.proofs.Least.{after-old, after-cases, after-symmetric, after-irreflexive, filled-holds, within-after}
 use Rattle.elimination.proofs.Relations.{Symmetric, Within, plain}
@@ -34,7 +34,7 @@ module _ (F W : Graph) (v : ℕ) where
               → ((f || ((xv && yl) || (yv && xl))) || ((xv && ya) || (xa && yv))) ≡ (f || ((xv && ym) || (yv && xm)))
           joins f xv yv xl yl xa ya xm ym p q = grind arith
 
-  pub keeping_all : (H : Graph) (low : ℕ) → Symmetric W → ((a b : ℕ) → W a b ≡ true → (a < 512) × (b < 512)) → H ≡ keeping F W v low → Gap W v low 512 → H ≡ union F (pairsAt W v)
+  pub keeping_all : (H : Graph) (low : ℕ) → Symmetric W → ((a b : ℕ) → W a b ≡ true → (a < 512) × (b < 512)) → H ≡ keeping F W v low → Gap W v low 512 → H ≡ union F (pairs_at W v)
   keeping_all H low sy below e gap = e ∙ fun_ext (λ x. fun_ext (λ y. at x y))
     where
       off : (z : ℕ) → (ltb z low && W v z) ≡ W v z
@@ -43,16 +43,16 @@ module _ (F W : Graph) (v : ℕ) where
           past : (z : ℕ) → low ≤ z → W v z ≡ false
           past z l = ⊎_elim (λ (t : W v z ≡ true). gap z l (below v z t).1) (λ (t : W v z ≡ false). t) (cases_Bool (W v z))
 
-      at : (x y : ℕ) → keeping F W v low x y ≡ union F (pairsAt W v) x y
+      at : (x y : ℕ) → keeping F W v low x y ≡ union F (pairs_at W v) x y
       at x y =
           ap (λ (t : Bool). F x y || ((eqb x v && t) || (eqb y v && (ltb x low && W v x)))) (off y)
           ∙ ap (λ (t : Bool). F x y || ((eqb x v && W v y) || (eqb y v && t))) (off x)
           ∙ ap (λ (t : Bool). F x y || t) (⊎_elim row (λ (nx : x ≡ v → ⊥). ⊎_elim column (λ (ny : y ≡ v → ⊥). grind (arith, nat_tests)) (cases_eq y v)) (cases_eq x v))
         where
-          row : x ≡ v → ((eqb x v && W v y) || (eqb y v && W v x)) ≡ pairsAt W v x y
+          row : x ≡ v → ((eqb x v && W v y) || (eqb y v && W v x)) ≡ pairs_at W v x y
           row q = let s : W x y ≡ W v y = ap (λ (z : ℕ). W z y) q in ⊎_elim (λ (r : y ≡ v). let t : W v x ≡ W v y = ap (W v) (q ∙ sym r) in grind (arith, nat_tests)) (λ (r : y ≡ v → ⊥). grind (arith, nat_tests)) (cases_eq y v)
 
-          column : y ≡ v → ((eqb x v && W v y) || (eqb y v && W v x)) ≡ pairsAt W v x y
+          column : y ≡ v → ((eqb x v && W v y) || (eqb y v && W v x)) ≡ pairs_at W v x y
           column q = let s : W x y ≡ W v x = sy x y ∙ ap (λ (z : ℕ). W z x) q in ⊎_elim (λ (r : x ≡ v). let t : W v x ≡ W v y = ap (W v) (r ∙ sym q) in grind (arith, nat_tests)) (λ (r : x ≡ v → ⊥). grind (arith, nat_tests)) (cases_eq x v)
 
 pub left : (E : Graph) (v : ℕ) → apart (union E (around E v)) v ≡ after E v
@@ -88,7 +88,7 @@ sel false true true f h = refl
 sel false true false f h = sym (h refl refl)
 sel false false s f h = refl
 
-pub leaving-step : (n : ℕ) (C : Graph) (xs : List ℕ) (k : ℕ) (W F W' F' : Graph) (v : ℕ) → k < length xs → get_or xs k 0 ≡ v → W' ≡ after W v → F' ≡ union F (pairsAt W v)
+pub leaving-step : (n : ℕ) (C : Graph) (xs : List ℕ) (k : ℕ) (W F W' F' : Graph) (v : ℕ) → k < length xs → get_or xs k 0 ≡ v → W' ≡ after W v → F' ≡ union F (pairs_at W v)
     → Leaving n C xs k W F → Leaving n C xs (k + 1) W' F'
 leaving-step n C xs k W F W' F' v h q ew ef l =
     let P : Graph → Type 0 = λ G. Leaving n C xs (k + 1) G F' in

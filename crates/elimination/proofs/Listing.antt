@@ -1,23 +1,23 @@
 -- Lists as orders: lengths, positions, and the check that tells their faults.
 use Rattle.std.proofs.Common.{◌≡◌, ℕ, zero, suc, ◌+◌, ◌<◌, ◌≤◌, true, false, not, ◌&&◌, eqb, ltb, leb, ◌≢◌, ◌⊎◌, List, [], ◌∷◌, ◌++◌, length, get_or, take, is_some, Some, None, filter, Option, sym, refl, ap, ◌∙◌, subst, inl, inr, ⊎_elim, arith, get_or-take}
 use Rattle.std.proofs.lemmas.Bool.{both_ways, cases_Bool, cases_eq, cases_order, eq-eqb, eqb-true, ne_eqb, lt-ltb, ltb-true, le-leb, leb-true, and_parts, and_from, not-true, not_from_false, cond-true, cond-false}
-use Rattle.network.specs.Refusals.{firstFault, refuse}
-use Rattle.network.specs.Orders.{orderFault, stationFault, among}
+use Rattle.network.specs.Refusals.{first_fault, refuse}
+use Rattle.network.specs.Orders.{order_fault, station_fault, among}
 use Rattle.network.proofs.Faults.{cond-none, each_none, no-fault}
 use Rattle.network.proofs.Marks.{named-nowhere, unnamed}
 use Rattle.elimination.specs.Orders.{In, Distinct, Order, up_to, member, position_of}
 use Rattle.elimination.specs.Kept.{Named, Found, Placed}
 use Rattle.elimination.specs.View.{listed}
 use Rattle.elimination.specs.declared.order.EliminationOrder.{EliminationOrder}
-use Rattle.elimination.proofs.Relations.{in_parts, in-upTo, upTo-in}
+use Rattle.elimination.proofs.Relations.{in_parts, in-up_to, up_to-in}
 use Rattle.elimination.proofs.Members.{in-member, member-in, in_kept, kept_in, distinct-kept, but, but-self, but-other, but-apart}
 
 -- ---- indices
 
-pub getD-in : (xs : List ℕ) (j : ℕ) → j < length xs → In (get_or xs j 0) xs
-getD-in [] j h = absurd (let no : ⊥ = omega arith in no)
-getD-in (x ∷ xs) zero h = inl refl
-getD-in (x ∷ xs) (suc j) h = inr (getD-in xs j (omega arith))
+pub get_or-in : (xs : List ℕ) (j : ℕ) → j < length xs → In (get_or xs j 0) xs
+get_or-in [] j h = absurd (let no : ⊥ = omega arith in no)
+get_or-in (x ∷ xs) zero h = inl refl
+get_or-in (x ∷ xs) (suc j) h = inr (get_or-in xs j (omega arith))
 
 pub index_of : (xs : List ℕ) (a : ℕ) → In a xs → (i : ℕ) × (i < length xs) × (get_or xs i 0 ≡ a)
 index_of [] a m = absurd m
@@ -31,7 +31,7 @@ Apart xs = (j k : ℕ) → j < k → k < length xs → get_or xs j 0 ≢ get_or 
 pub distinct_apart : (xs : List ℕ) → Distinct xs → Apart xs
 distinct_apart [] d j k l h q = absurd (let no : ⊥ = omega arith in no)
 distinct_apart (x ∷ xs) d zero zero l h q = absurd (let no : ⊥ = omega arith in no)
-distinct_apart (x ∷ xs) d zero (suc k) l h q = d.0 (rw (sym q) at (getD-in xs k (omega arith)))
+distinct_apart (x ∷ xs) d zero (suc k) l h q = d.0 (rw (sym q) at (get_or-in xs k (omega arith)))
 distinct_apart (x ∷ xs) d (suc j) zero l h q = absurd (let no : ⊥ = omega arith in no)
 distinct_apart (x ∷ xs) d (suc j) (suc k) l h q = distinct_apart xs d.1 j k (omega arith) (omega arith) q
 
@@ -45,12 +45,12 @@ same_place xs d j k hj hk q =
     (⊎_elim (λ (l : j < k). absurd (distinct_apart xs d j k l hk q)) (λ (l : k < j). absurd (distinct_apart xs d k j l hj (sym q))))
     (cases_order j k)
 
-pub position-of : (xs : List ℕ) (k : ℕ) → Distinct xs → k < length xs → position_of xs (get_or xs k 0) ≡ k
-position-of [] k d h = absurd (let no : ⊥ = omega arith in no)
-position-of (x ∷ xs) zero d h = cond-true (eqb x x) 0 (suc (position_of xs x)) (eq-eqb x x refl)
-position-of (x ∷ xs) (suc k) d h =
-    cond-false (eqb x (get_or xs k 0)) 0 (suc (position_of xs (get_or xs k 0))) (ne_eqb x (get_or xs k 0) (λ q. d.0 (rw (sym q) at (getD-in xs k (omega arith)))))
-    ∙ ap suc (position-of xs k d.1 (omega arith))
+pub position_of_station : (xs : List ℕ) (k : ℕ) → Distinct xs → k < length xs → position_of xs (get_or xs k 0) ≡ k
+position_of_station [] k d h = absurd (let no : ⊥ = omega arith in no)
+position_of_station (x ∷ xs) zero d h = cond-true (eqb x x) 0 (suc (position_of xs x)) (eq-eqb x x refl)
+position_of_station (x ∷ xs) (suc k) d h =
+    cond-false (eqb x (get_or xs k 0)) 0 (suc (position_of xs (get_or xs k 0))) (ne_eqb x (get_or xs k 0) (λ q. d.0 (rw (sym q) at (get_or-in xs k (omega arith)))))
+    ∙ ap suc (position_of_station xs k d.1 (omega arith))
 
 -- ---- lengths
 
@@ -127,38 +127,38 @@ order-length (suc n) xs o =
 
 -- ---- the check of orders
 
-station-none : (xs : List ℕ) (n k : ℕ) → stationFault xs n k ≡ None → (get_or xs k 0 < n) × ((j : ℕ) → j < k → get_or xs j 0 ≡ get_or xs k 0 → ⊥)
-unfolding stationFault
+station-none : (xs : List ℕ) (n k : ℕ) → station_fault xs n k ≡ None → (get_or xs k 0 < n) × ((j : ℕ) → j < k → get_or xs j 0 ≡ get_or xs k 0 → ⊥)
+unfolding station_fault
 station-none xs n k e =
     let t = and_parts (ltb (get_or xs k 0) n) (not (among xs k (get_or xs k 0))) (cond-none (ltb (get_or xs k 0) n && not (among xs k (get_or xs k 0))) None 14 k e).0 in
     (ltb-true (get_or xs k 0) n t.0, named-nowhere (λ k. get_or xs k 0) k (get_or xs k 0) (not-true (among xs k (get_or xs k 0)) t.1))
 
-none-station : (xs : List ℕ) (n k : ℕ) → get_or xs k 0 < n → ((j : ℕ) → j < k → get_or xs j 0 ≡ get_or xs k 0 → ⊥) → stationFault xs n k ≡ None
-unfolding stationFault
+none-station : (xs : List ℕ) (n k : ℕ) → get_or xs k 0 < n → ((j : ℕ) → j < k → get_or xs j 0 ≡ get_or xs k 0 → ⊥) → station_fault xs n k ≡ None
+unfolding station_fault
 none-station xs n k h f =
     cond-true (ltb (get_or xs k 0) n && not (among xs k (get_or xs k 0))) None (refuse 14 k)
     (and_from (ltb (get_or xs k 0) n) (not (among xs k (get_or xs k 0))) (lt-ltb (get_or xs k 0) n h) (not_from_false (among xs k (get_or xs k 0)) (unnamed (λ k. get_or xs k 0) k (get_or xs k 0) f)))
 
-pub fault-parts : (xs : List ℕ) (n : ℕ) → orderFault xs n ≡ None → (length xs ≡ n) × (n ≤ 512) × (firstFault (stationFault xs n) n ≡ None)
+pub fault-parts : (xs : List ℕ) (n : ℕ) → order_fault xs n ≡ None → (length xs ≡ n) × (n ≤ 512) × (first_fault (station_fault xs n) n ≡ None)
 fault-parts xs n e =
-    let t = cond-none (eqb (length xs) n && leb n 512) (firstFault (stationFault xs n) n) 13 (length xs) e in
+    let t = cond-none (eqb (length xs) n && leb n 512) (first_fault (station_fault xs n) n) 13 (length xs) e in
     let p = and_parts (eqb (length xs) n) (leb n 512) t.0 in
     (eqb-true (length xs) n p.0, leb-true n 512 p.1, t.1)
 
-pub fault-order : (xs : List ℕ) (n : ℕ) → orderFault xs n ≡ None → Order n xs
+pub fault-order : (xs : List ℕ) (n : ℕ) → order_fault xs n ≡ None → Order n xs
 fault-order xs n e =
     let p = fault-parts xs n e in
-    let at : (k : ℕ) → k < n → (get_or xs k 0 < n) × ((j : ℕ) → j < k → get_or xs j 0 ≡ get_or xs k 0 → ⊥) = λ k h. station-none xs n k (each_none (stationFault xs n) n p.2 k h) in
+    let at : (k : ℕ) → k < n → (get_or xs k 0 < n) × ((j : ℕ) → j < k → get_or xs j 0 ≡ get_or xs k 0 → ⊥) = λ k h. station-none xs n k (each_none (station_fault xs n) n p.2 k h) in
     let l : length xs ≡ n = p.0 in
     let d : Distinct xs = apart_distinct xs (λ j k lt h. (at k (omega arith)).1 j lt) in
     let only : (a : ℕ) → In a xs → a < n = λ a i. (let r = index_of xs a i in subst (λ (b : ℕ). b < n) r.2 (at r.0 (omega (arith, r.1))).0) in
     record { once = d; all = full n xs d only l; only = only }
 
-pub order-fault : (xs : List ℕ) (n : ℕ) → n ≤ 512 → Order n xs → orderFault xs n ≡ None
+pub order-fault : (xs : List ℕ) (n : ℕ) → n ≤ 512 → Order n xs → order_fault xs n ≡ None
 order-fault xs n few o =
     let l = order-length n xs o in
-    cond-true (eqb (length xs) n && leb n 512) (firstFault (stationFault xs n) n) (refuse 13 (length xs)) (and_from (eqb (length xs) n) (leb n 512) (eq-eqb (length xs) n l) (le-leb n 512 few))
-    ∙ no-fault (stationFault xs n) n (λ k h. none-station xs n k (o.only _ (getD-in xs k (omega arith))) (λ j lt. distinct_apart xs o.once j k lt (omega arith)))
+    cond-true (eqb (length xs) n && leb n 512) (first_fault (station_fault xs n) n) (refuse 13 (length xs)) (and_from (eqb (length xs) n) (leb n 512) (eq-eqb (length xs) n l) (le-leb n 512 few))
+    ∙ no-fault (station_fault xs n) n (λ k h. none-station xs n k (o.only _ (get_or-in xs k (omega arith))) (λ j lt. distinct_apart xs o.once j k lt (omega arith)))
 
 -- ---- the rising order
 
@@ -169,12 +169,12 @@ distinct_snoc (x ∷ ys) y d f = (
   distinct_snoc ys y d.1 (λ i. f (inr i)),
 )
 
-distinct-upTo : (n : ℕ) → Distinct (up_to n)
-distinct-upTo zero = tt
-distinct-upTo (suc n) = distinct_snoc (up_to n) n (distinct-upTo n) (λ i. let l : n < n = upTo-in n n i in let no : ⊥ = omega arith in no)
+distinct-up_to : (n : ℕ) → Distinct (up_to n)
+distinct-up_to zero = tt
+distinct-up_to (suc n) = distinct_snoc (up_to n) n (distinct-up_to n) (λ i. let l : n < n = up_to-in n n i in let no : ⊥ = omega arith in no)
 
-pub upTo-order : (n : ℕ) → Order n (up_to n)
-upTo-order n = record { once = distinct-upTo n; all = in-upTo n; only = upTo-in n }
+pub up_to-order : (n : ℕ) → Order n (up_to n)
+up_to-order n = record { once = distinct-up_to n; all = in-up_to n; only = up_to-in n }
 
 -- ---- positions
 
@@ -187,7 +187,7 @@ named-from size stations few o = ap is_some (order-fault (take size stations) si
 
 module _ (size : ℕ) (stations : List ℕ) (few : size ≤ length stations) (named : Named size stations) where
   pub named-order : Order size (take size stations)
-  named-order = fault-order (take size stations) size (none_from (orderFault (take size stations) size) named)
+  named-order = fault-order (take size stations) size (none_from (order_fault (take size stations) size) named)
 
   pub named-length : length (take size stations) ≡ size
   named-length = order-length size (take size stations) named-order
@@ -195,7 +195,7 @@ module _ (size : ℕ) (stations : List ℕ) (few : size ≤ length stations) (na
   pub named_small : (k : ℕ) → k < size → get_or stations k 0 < size
   named_small k h =
       let l = named-length in
-      subst (λ (a : ℕ). a < size) (get_or-take size stations k 0 h) (named-order.only _ (getD-in (take size stations) k (omega arith)))
+      subst (λ (a : ℕ). a < size) (get_or-take size stations k 0 h) (named-order.only _ (get_or-in (take size stations) k (omega arith)))
 
   pub named-apart : (j k : ℕ) → j < k → k < size → get_or stations j 0 ≢ get_or stations k 0
   named-apart j k lt h q =
@@ -221,12 +221,12 @@ module _ (size : ℕ) (stations : List ℕ) (few : size ≤ length stations) (na
       let l = named-length in
       let k : ℕ = get_or positions s 0 in
       let lt : k < length (take size stations) = omega (arith, t.0) in
-      sym (ap (position_of (take size stations)) (sym (get_or-take size stations k 0 t.0 ∙ t.1)) ∙ position-of (take size stations) k named-order.once lt)
+      sym (ap (position_of (take size stations)) (sym (get_or-take size stations k 0 t.0 ∙ t.1)) ∙ position_of_station (take size stations) k named-order.once lt)
 
 -- ---- the order type
 
 pub order-of : (order : EliminationOrder) → Order order.size (listed order)
-order-of order = fault-order (listed order) order.size (none_from (orderFault (listed order) order.size) order.named)
+order-of order = fault-order (listed order) order.size (none_from (order_fault (listed order) order.size) order.named)
 
 pub listed-length : (order : EliminationOrder) → length (listed order) ≡ order.size
 listed-length order = order-length order.size (listed order) (order-of order)

@@ -101,14 +101,14 @@ pub in_right : (a : ℕ) (xs ys : List ℕ) → In a ys → In a (xs ++ ys)
 in_right a [] ys i = i
 in_right a (x ∷ xs) ys i = inr (in_right a xs ys i)
 
-pub in-upTo : (n a : ℕ) → a < n → In a (up_to n)
-in-upTo zero a h = absurd (let no : ⊥ = omega arith in no)
-in-upTo (suc n) a h = ⊎_elim (λ (q : a ≡ n). in_right a (up_to n) (n ∷ []) (inl q)) (λ (m : a ≡ n → ⊥). in_left a (up_to n) (n ∷ []) (in-upTo n a (omega arith))) (cases_eq a n)
+pub in-up_to : (n a : ℕ) → a < n → In a (up_to n)
+in-up_to zero a h = absurd (let no : ⊥ = omega arith in no)
+in-up_to (suc n) a h = ⊎_elim (λ (q : a ≡ n). in_right a (up_to n) (n ∷ []) (inl q)) (λ (m : a ≡ n → ⊥). in_left a (up_to n) (n ∷ []) (in-up_to n a (omega arith))) (cases_eq a n)
 
-pub upTo-in : (n a : ℕ) → In a (up_to n) → a < n
-upTo-in zero a i = absurd i
-upTo-in (suc n) a i =
-    ⊎_elim (λ (m : In a (up_to n)). let l = upTo-in n a m in let r : a < suc n = omega arith in r)
+pub up_to-in : (n a : ℕ) → In a (up_to n) → a < n
+up_to-in zero a i = absurd i
+up_to-in (suc n) a i =
+    ⊎_elim (λ (m : In a (up_to n)). let l = up_to-in n a m in let r : a < suc n = omega arith in r)
     (λ (m : In a (n ∷ [])). ⊎_elim (λ (q : a ≡ n). let r : a < suc n = omega arith in r) (λ (z : ⊥). absurd z) m)
     (in_parts a (up_to n) (n ∷ []) i)
 
@@ -117,7 +117,7 @@ upTo-in (suc n) a i =
 pub spare-from : (n : ℕ) (G : Graph) (u v : ℕ) → ((a b : ℕ) → G a b ≡ true → (a < n) × (b < n)) → spare n G u v ≡ true → SpareIn G u v
 unfolding spare
 spare-from n G u v below e a ua va b ne ub vb =
-    clique-from G (λ a. G u a && G v a) (up_to n) e a b (in-upTo n a (below u a ua).1) (in-upTo n b (below u b ub).1) ne
+    clique-from G (λ a. G u a && G v a) (up_to n) e a b (in-up_to n a (below u a ua).1) (in-up_to n b (below u b ub).1) ne
     (and_from (G u a) (G v a) ua va) (and_from (G u b) (G v b) ub vb)
 
 pub spare-to : (n : ℕ) (G : Graph) (u v : ℕ) → SpareIn G u v → spare n G u v ≡ true

@@ -7,14 +7,14 @@ use Rattle.std.proofs.lemmas.Bool.{both_ways, cases_Bool, cases_eq, cases_lt, ca
 use Rattle.std.proofs.lemmas.Bool.Decides.{nat_tests}
 use Rattle.std.proofs.lemmas.Nat.{one_shl}
 use Rattle.network.specs.Bits.{bit_at, count_to}
-use Rattle.network.specs.Net.{nextCoupled}
+use Rattle.network.specs.Net.{next_coupled}
 use Rattle.network.specs.Laws.{FirstIs}
-use Rattle.network.proofs.Bits.{bitAt-zero, bitAt-suc, bitAt-or, bitAt-and, bitAt-pow, bitAt-not, bits-within, within-bits, countTo-add, countTo-same, ones-bits}
+use Rattle.network.proofs.Bits.{bit_at-zero, bit_at-suc, bit_at-or, bit_at-and, bit_at-pow, bit_at-not, bits-within, within-bits, count_to-add, count_to-same, ones-bits}
 use Rattle.network.proofs.Nexts.{next-smallest}
 use Rattle.elimination.specs.Graphs.{Graph}
 use Rattle.elimination.specs.Orders.{up_to}
-use Rattle.elimination.specs.Words.{has, rows, rowTaken, between, nextIn, commonWithin}
-use Rattle.elimination.proofs.Relations.{Meets, every_in, in-every, in-upTo}
+use Rattle.elimination.specs.Words.{has, rows, row_taken, between, next_of, has_common_within}
+use Rattle.elimination.proofs.Relations.{Meets, every_in, in-every, in-up_to}
 use Rattle.elimination.proofs.Rows.{rows-has, rows-below, rows_are, has-set}
 
 -- ---- the lowest set bit
@@ -25,8 +25,8 @@ trailing-low zero n j h = absurd (let no : ⊥ = omega arith in no)
 trailing-low (suc w) n j h = digit (n % 2) refl h (λ i. trailing-low w (n / 2) i)
   where
     rest : (j : ℕ) → n % 2 ≡ 0 → j < suc (count_trailing_zeros w (n / 2)) → ((i : ℕ) → i < count_trailing_zeros w (n / 2) → bit_at (n / 2) i ≡ false) → bit_at n j ≡ false
-    rest zero e h ih = bitAt-zero n ∙ ap (λ (x : ℕ). eqb x 1) e
-    rest (suc j) e h ih = bitAt-suc n j ∙ ih j (omega arith)
+    rest zero e h ih = bit_at-zero n ∙ ap (λ (x : ℕ). eqb x 1) e
+    rest (suc j) e h ih = bit_at-suc n j ∙ ih j (omega arith)
 
     digit : (d : ℕ) → n % 2 ≡ d → j < under d (count_trailing_zeros w (n / 2)) → ((i : ℕ) → i < count_trailing_zeros w (n / 2) → bit_at (n / 2) i ≡ false) → bit_at n j ≡ false
     digit zero e h ih = rest j e h ih
@@ -41,8 +41,8 @@ trailing-bit (suc w) n h ne = digit (n % 2) refl (trailing-bit w (n / 2))
         → (under d (count_trailing_zeros w (n / 2)) < suc w) × (bit_at n (under d (count_trailing_zeros w (n / 2))) ≡ true)
     digit zero e ih =
         let t = ih (omega (arith, pow-suc 2 w)) (λ z. ne (omega arith)) in
-        (omega (arith, t.0), bitAt-suc n (count_trailing_zeros w (n / 2)) ∙ t.1)
-    digit (suc d) e ih = (omega arith, bitAt-zero n ∙ (let one : n % 2 ≡ 1 = omega arith in ap (λ (x : ℕ). eqb x 1) one))
+        (omega (arith, t.0), bit_at-suc n (count_trailing_zeros w (n / 2)) ∙ t.1)
+    digit (suc d) e ih = (omega arith, bit_at-zero n ∙ (let one : n % 2 ≡ 1 = omega arith in ap (λ (x : ℕ). eqb x 1) one))
 
 -- ---- the next member
 
@@ -55,13 +55,13 @@ first-same p low high (Some t) (Some u) f g =
     (⊎_elim (λ (lt : t < u). absurd (both_ways (p t) (g.3 t f.0 lt) f.2)) (λ (lt : u < t). absurd (both_ways (p u) (f.3 u g.0 lt) g.2)))
     (cases_order t u)
 
-pub next-is : (G : Graph) (a from : ℕ) → FirstIs (G a) from 512 (nextIn G a from)
-unfolding nextCoupled
+pub next-is : (G : Graph) (a from : ℕ) → FirstIs (G a) from 512 (next_of G a from)
+unfolding next_coupled
 next-is G a from = next-smallest (record { size = 512; coupled = G }) a from
 
 -- what has the law of the next member is the next member
-pub is-next : (G : Graph) (a from : ℕ) (o : Option ℕ) → FirstIs (G a) from 512 o → o ≡ nextIn G a from
-is-next G a from o f = first-same (G a) from 512 o (nextIn G a from) f (next-is G a from)
+pub is-next : (G : Graph) (a from : ℕ) (o : Option ℕ) → FirstIs (G a) from 512 o → o ≡ next_of G a from
+is-next G a from o f = first-same (G a) from 512 o (next_of G a from) f (next-is G a from)
 
 -- ---- a row word by word
 
@@ -81,8 +81,8 @@ module _ (ws : List ℕ) (a from k l : ℕ) (ha : a < 512) (hk : k < 8) (hl : l 
 
   rest-bit : (j : ℕ) → j < 64 → bit_at rest j ≡ (rows ws a (64 * k + j) && not (ltb (64 * k + j) from))
   rest-bit j hj =
-      bitAt-and (get_or ws (a * 8 + k) 0) ((2 ^ 64 - 1) - l) j
-      ∙ ap₂ (λ x y. x && y) (sym (rows-has ws a (64 * k + j) ha (omega arith) ∙ has_word ws a k j hj)) (bitAt-not 64 l j hl hj ∙ ap not (isLow j hj))
+      bit_at-and (get_or ws (a * 8 + k) 0) ((2 ^ 64 - 1) - l) j
+      ∙ ap₂ (λ x y. x && y) (sym (rows-has ws a (64 * k + j) ha (omega arith) ∙ has_word ws a k j hj)) (bit_at-not 64 l j hl hj ∙ ap not (isLow j hj))
 
   at-word : (x : ℕ) → 64 * k ≤ x → x < 64 * (k + 1) → (rows ws a x && not (ltb x from)) ≡ bit_at rest (x % 64)
   at-word x h g = let e : 64 * k + x % 64 ≡ x = omega arith in sym (rest-bit (x % 64) (omega arith) ∙ ap (λ (y : ℕ). rows ws a y && not (ltb y from)) e)
@@ -97,8 +97,8 @@ module _ (ws : List ℕ) (a from k l : ℕ) (ha : a < 512) (hk : k < 8) (hl : l 
       (cases_lt x (64 * k))
     where
       none : (j : ℕ) → bit_at 0 j ≡ false
-      none zero = bitAt-zero 0
-      none (suc j) = bitAt-suc 0 j ∙ none j
+      none zero = bit_at-zero 0
+      none (suc j) = bit_at-suc 0 j ∙ none j
 
   pub next_here : rest < 2 ^ 64 → (rest ≡ 0 → ⊥) → ((x : ℕ) → from ≤ x → x < 64 * k → rows ws a x ≡ false)
       → FirstIs (rows ws a) from 512 (Some (64 * k + count_trailing_zeros 64 rest))
@@ -128,10 +128,10 @@ taking G a v k x y = G x y || (eqb x a && (ltb y (64 * k) && G v y))
 pub taking-none : (G : Graph) (a v : ℕ) → G ≡ taking G a v 0
 taking-none G a v = fun_ext (λ x. fun_ext (λ y. grind (arith, nat_tests)))
 
-pub taking-all : (ws : List ℕ) (a v k : ℕ) → 8 ≤ k → taking (rows ws) a v k ≡ rowTaken (rows ws) a v
+pub taking-all : (ws : List ℕ) (a v k : ℕ) → 8 ≤ k → taking (rows ws) a v k ≡ row_taken (rows ws) a v
 taking-all ws a v k h = fun_ext (λ x. fun_ext (λ y. here x y))
   where
-    here : (x y : ℕ) → taking (rows ws) a v k x y ≡ rowTaken (rows ws) a v x y
+    here : (x y : ℕ) → taking (rows ws) a v k x y ≡ row_taken (rows ws) a v x y
     here x y =
         ⊎_elim (λ (t : rows ws v y ≡ true). let l = rows-below ws v y t in let lt : y < 512 = l.1 in grind (arith, nat_tests))
         (λ (t : rows ws v y ≡ false). grind (arith, nat_tests)) (cases_Bool (rows ws v y))
@@ -154,7 +154,7 @@ taking-more G vs a v k l ha hv hk e past = rows_are _ (taking G a v (k + 1)) her
         ∙ ⊎_elim
         (λ (i : y / 64 ≡ k).
         ap (λ (b : Bool). cond (eqb x a && eqb (y / 64) k) b (has vs x y))
-        (bitAt-or (get_or vs (a * 8 + k) 0) (get_or vs (v * 8 + k) 0) (y % 64) ∙ ap₂ (λ p q. p || q) (sym (has_in vs a k y i) ∙ at a y ha hy) (sym (has_in vs v k y i) ∙ at v y hv hy))
+        (bit_at-or (get_or vs (a * 8 + k) 0) (get_or vs (v * 8 + k) 0) (y % 64) ∙ ap₂ (λ p q. p || q) (sym (has_in vs a k y i) ∙ at a y ha hy) (sym (has_in vs v k y i) ∙ at v y hv hy))
         ∙ ap (λ (b : Bool). cond (eqb x a && eqb (y / 64) k) (taking G a v k a y || taking G a v k v y) b) (at x y hx hy)
         ∙ same x y i (cases_eq x a))
         (λ (ne : y / 64 ≡ k → ⊥). ap (λ (b : Bool). cond (eqb x a && eqb (y / 64) k) (bit_at (bit_or (get_or vs (a * 8 + k) 0) (get_or vs (v * 8 + k) 0)) (y % 64)) b) (at x y hx hy) ∙ other x y _ ne)
@@ -199,7 +199,7 @@ module _ (ws : List ℕ) (a b c k t : ℕ) (ht : t < 2 ^ 64) (own : (j : ℕ) �
 pub own-here : (ws : List ℕ) (c k j : ℕ) → k ≡ c / 64 → j < 64
     → bit_at (bit_or (get_or ws (c * 8 + k) 0) ((1 * 2 ^ (c % 64)) % 2 ^ 64)) j ≡ (has ws c (64 * k + j) || eqb (64 * k + j) c)
 own-here ws c k j e hj =
-    rw (one_shl (c % 64) 64 (omega arith)) (rw bitAt-or (rw bitAt-pow
+    rw (one_shl (c % 64) 64 (omega arith)) (rw bit_at-or (rw bit_at-pow
     (ap₂ (λ x y. x || y) (sym (has_word ws c k j hj)) (grind (arith, nat_tests)))))
 
 pub own-other : (ws : List ℕ) (c k j : ℕ) → (k ≡ c / 64 → ⊥) → j < 64
@@ -221,9 +221,9 @@ module _ (ws : List ℕ) (a b c : ℕ) (ha : a < 512) (hb : b < 512) (hc : c < 5
       let hx : x < 512 = (rows-below ws a x p).1 in
       rows-has ws c x hc hx ∙ r x hx (λ e. ne (sym e)) (sym (rows-has ws a x ha hx) ∙ p) (sym (rows-has ws b x hb hx) ∙ q)
 
-common-decides : (n : ℕ) (G : Graph) (a b c : ℕ) (r : Bool) → ((x : ℕ) → G a x ≡ true → x < n) → r ≡ commonWithin n G a b c → Decides r (Meets G a b c)
-unfolding commonWithin
-common-decides n G a b c r small e = (λ t x ne p q. fails x ne p q (every_in test (up_to n) (sym e ∙ t) x (in-upTo n x (small x p))), λ m. e ∙ in-every test (up_to n) (λ x i. pass x m))
+common-decides : (n : ℕ) (G : Graph) (a b c : ℕ) (r : Bool) → ((x : ℕ) → G a x ≡ true → x < n) → r ≡ has_common_within n G a b c → Decides r (Meets G a b c)
+unfolding has_common_within
+common-decides n G a b c r small e = (λ t x ne p q. fails x ne p q (every_in test (up_to n) (sym e ∙ t) x (in-up_to n x (small x p))), λ m. e ∙ in-every test (up_to n) (λ x i. pass x m))
   where
     test : ℕ → Bool
     test x = not (G a x && (G b x && not (eqb x c))) || G c x
@@ -240,15 +240,15 @@ common-decides n G a b c r small e = (λ t x ne p q. fails x ne p q (every_in te
     fails : (x : ℕ) → (c ≡ x → ⊥) → G a x ≡ true → G b x ≡ true → test x ≡ true → G c x ≡ true
     fails x ne p q t = let i : eqb x c ≡ false = ne_eqb x c (λ d. ne (sym d)) in let j : (not (G a x && (G b x && not (eqb x c))) || G c x) ≡ true = t in simp (p, q, i) at j
 
-pub common-meets : (ws : List ℕ) (a b c : ℕ) (r : Bool) → r ≡ commonWithin 512 (rows ws) a b c → Decides r (Meets (rows ws) a b c)
+pub common-meets : (ws : List ℕ) (a b c : ℕ) (r : Bool) → r ≡ has_common_within 512 (rows ws) a b c → Decides r (Meets (rows ws) a b c)
 common-meets ws a b c r e = common-decides 512 (rows ws) a b c r (λ x p. (rows-below ws a x p).1) e
 
 module _ (ws : List ℕ) (a b c : ℕ) (ha : a < 512) (hb : b < 512) (hc : c < 512) where
-  pub common-all : Rest ws a b c 512 → true ≡ commonWithin 512 (rows ws) a b c
+  pub common-all : Rest ws a b c 512 → true ≡ has_common_within 512 (rows ws) a b c
   common-all r = sym ((common-meets ws a b c _ refl).1 (rest_meets ws a b c ha hb hc r))
 
-  pub common-not : (Rest ws a b c 512 → ⊥) → false ≡ commonWithin 512 (rows ws) a b c
-  common-not f = ⊎_elim (λ (t : commonWithin 512 (rows ws) a b c ≡ true). absurd (f (meets-rest ws a b c ha hb hc ((common-meets ws a b c _ refl).0 t)))) (λ (t : commonWithin 512 (rows ws) a b c ≡ false). sym t) (cases_Bool (commonWithin 512 (rows ws) a b c))
+  pub common-not : (Rest ws a b c 512 → ⊥) → false ≡ has_common_within 512 (rows ws) a b c
+  common-not f = ⊎_elim (λ (t : has_common_within 512 (rows ws) a b c ≡ true). absurd (f (meets-rest ws a b c ha hb hc ((common-meets ws a b c _ refl).0 t)))) (λ (t : has_common_within 512 (rows ws) a b c ≡ false). sym t) (cases_Bool (has_common_within 512 (rows ws) a b c))
 
 -- ---- the count of a row, word by word
 
@@ -260,11 +260,11 @@ count-more ws a lo hi k h l ha hk hw hl isHi isLo =
     let w : ℕ = bit_and (get_or ws (a * 8 + k) 0) (bit_and h ((2 ^ 64 - 1) - l)) in
     let small : w < 2 ^ 64 = omega (arith, and_le_l (get_or ws (a * 8 + k) 0) (bit_and h ((2 ^ 64 - 1) - l))) in
     let e : 64 * (k + 1) ≡ 64 * k + 64 = omega arith in
-    rw e (countTo-add (between (rows ws) a lo hi) (64 * k) 64
+    rw e (count_to-add (between (rows ws) a lo hi) (64 * k) 64
     ∙ ap (λ (n : ℕ). count_to (between (rows ws) a lo hi) (64 * k) + n)
-    (countTo-same _ (bit_at w) 64 (λ j hj.
+    (count_to-same _ (bit_at w) 64 (λ j hj.
     ap₂ (λ x y. x && y) (rows-has ws a (64 * k + j) ha (omega arith) ∙ has_word ws a k j hj)
     (ap₂ (λ x y. x && not y) (sym (isHi j hj)) (sym (isLo j hj))
-    ∙ ap (λ y. bit_at h j && y) (sym (bitAt-not 64 l j hl hj)) ∙ sym (bitAt-and h ((2 ^ 64 - 1) - l) j))
-    ∙ sym (bitAt-and (get_or ws (a * 8 + k) 0) (bit_and h ((2 ^ 64 - 1) - l)) j))
+    ∙ ap (λ y. bit_at h j && y) (sym (bit_at-not 64 l j hl hj)) ∙ sym (bit_at-and h ((2 ^ 64 - 1) - l) j))
+    ∙ sym (bit_at-and (get_or ws (a * 8 + k) 0) (bit_and h ((2 ^ 64 - 1) - l)) j))
     ∙ sym (ones-bits 64 w small)))

@@ -7,7 +7,7 @@ use Rattle.std.proofs.lemmas.Bool.{cases_eq, cases_lt, lt-ltb, le-ltb, ltb-true,
 use Rattle.std.proofs.lemmas.Bool.Decides.{nat_tests}
 use Rattle.std.proofs.lemmas.Nat.{one_shl, pow_below}
 use Rattle.network.specs.Bits.{bit_at}
-use Rattle.network.proofs.Bits.{bitAt-none, bitAt-or, bitAt-and, bitAt-pow, bitAt-not}
+use Rattle.network.proofs.Bits.{bit_at-none, bit_at-or, bit_at-and, bit_at-pow, bit_at-not}
 use Rattle.elimination.specs.Graphs.{Graph}
 use Rattle.elimination.specs.Words.{has, rows, placed, struck}
 
@@ -48,7 +48,7 @@ zeroes n k =
 pub rows_empty : (a b : ℕ) → rows (replicate 4096 0) a b ≡ false
 unfolding rows has
 rows_empty a b =
-    let e : has (replicate 4096 0) a b ≡ false = ap (λ (w : ℕ). bit_at w (b % 64)) (zeroes 4096 (a * 8 + b / 64)) ∙ bitAt-none (b % 64) in
+    let e : has (replicate 4096 0) a b ≡ false = ap (λ (w : ℕ). bit_at w (b % 64)) (zeroes 4096 (a * 8 + b / 64)) ∙ bit_at-none (b % 64) in
     grind arith
 
 -- ---- a write to the word k of the row a
@@ -78,7 +78,7 @@ rows-placed ws a b l ha hb = rows_are _ (placed (rows ws) a b) here past
         let one = one_shl (b % 64) 64 (omega arith) in
         let kb : b / 64 < 8 = omega arith in
         let e = has-set ws a (b / 64) (bit_or w ((1 * 2 ^ (b % 64)) % 2 ^ 64)) x y l ha kb hx hy in
-        e ∙ rw (rows-has ws x y hx hy) (rw one (rw bitAt-or (rw bitAt-pow (grind (arith, nat_tests)))))
+        e ∙ rw (rows-has ws x y hx hy) (rw one (rw bit_at-or (rw bit_at-pow (grind (arith, nat_tests)))))
 
     past : (x y : ℕ) → (512 ≤ x) ⊎ (512 ≤ y) → placed (rows ws) a b x y ≡ false
     past x y h = let e = rows-past ws x y h in other h e
@@ -100,8 +100,8 @@ rows-struck ws a b l ha hb = rows_are _ (struck (rows ws) a b) here past
         let kb : b / 64 < 8 = omega arith in
         let e = has-set ws a (b / 64) (bit_and w ((2 ^ 64 - 1) - (1 * 2 ^ (b % 64)) % 2 ^ 64)) x y l ha kb hx hy in
         let bound : 2 ^ (b % 64) < 2 ^ 64 = pow_below (b % 64) 64 (omega arith) in
-        let turn : bit_at ((2 ^ 64 - 1) - 2 ^ (b % 64)) (y % 64) ≡ not (eqb (y % 64) (b % 64)) = bitAt-not 64 (2 ^ (b % 64)) (y % 64) bound (omega arith) ∙ ap not (bitAt-pow (b % 64) (y % 64)) in
-        e ∙ rw (rows-has ws x y hx hy) (rw one (rw bitAt-and (rw turn (grind (arith, nat_tests)))))
+        let turn : bit_at ((2 ^ 64 - 1) - 2 ^ (b % 64)) (y % 64) ≡ not (eqb (y % 64) (b % 64)) = bit_at-not 64 (2 ^ (b % 64)) (y % 64) bound (omega arith) ∙ ap not (bit_at-pow (b % 64) (y % 64)) in
+        e ∙ rw (rows-has ws x y hx hy) (rw one (rw bit_at-and (rw turn (grind (arith, nat_tests)))))
 
     past : (x y : ℕ) → (512 ≤ x) ⊎ (512 ≤ y) → struck (rows ws) a b x y ≡ false
     past x y h = let e = rows-past ws x y h in grind arith

@@ -5,8 +5,8 @@ use Rattle.network.specs.Net.{Net, Lawful}
 use Rattle.elimination.specs.Graphs.{Graph, Simple, Sub, closed, spare, without}
 use Rattle.elimination.specs.Orders.{In, Order, up_to}
 use Rattle.elimination.specs.Elimination.{filled, fill}
-use Rattle.elimination.specs.Theorems.{Filled-is-the-least-closed, Filled-by-paths, End-vertex, Without-spare-fill-minimal, Less-fill-leaves-a-spare-pair, Spare-pairs-can-go, Perfect-fills-within, Any-station-last, Seats-without-new-fill}
-use Rattle.elimination.proofs.Relations.{Closed, Clique, SpareIn, plain, simple, clique-from, clique-to, closed-from, closed-to, in-upTo, upTo-in, spare-from, spare-to}
+use Rattle.elimination.specs.Theorems.{FilledIsTheLeastClosed, FilledByPaths, EndVertexLaw, WithoutSpareFillMinimal, LessFillLeavesASparePair, SparePairsCanGo, PerfectFillsWithin, AnyStationLast, SeatsWithoutNewFill}
+use Rattle.elimination.proofs.Relations.{Closed, Clique, SpareIn, plain, simple, clique-from, clique-to, closed-from, closed-to, in-up_to, up_to-in, spare-from, spare-to}
 use Rattle.elimination.proofs.Least.{filled-holds, filled-closed, filled-least, filled-symmetric, filled-irreflexive, within-filled}
 use Rattle.elimination.proofs.EndVertex.{End, end-vertex}
 use Rattle.elimination.proofs.Excess.{Excess, excess}
@@ -69,7 +69,7 @@ not-fill C ys a b g = ⊎_elim (λ (h : fill C ys a b ≡ true). absurd (both_wa
 
 -- ---- the theorems
 
-pub filled-is-the-least-closed : Filled-is-the-least-closed
+pub filled-is-the-least-closed : FilledIsTheLeastClosed
 filled-is-the-least-closed net xs l o =
     let s = lawful-simple net l in (
       filled-simple net.size net.coupled s xs o,
@@ -78,22 +78,22 @@ filled-is-the-least-closed net xs l o =
       λ H c k. filled-order-least net.size net.coupled s xs o H c (closed-from H xs k),
     )
 
-pub perfect-fills-within : Perfect-fills-within
+pub perfect-fills-within : PerfectFillsWithin
 perfect-fills-within net xs l o H c k = filled-order-least net.size net.coupled (lawful-simple net l) xs o H c (closed-from H xs k)
 
-pub filled-by-paths : Filled-by-paths
+pub filled-by-paths : FilledByPaths
 filled-by-paths net xs l o a b ne = (
   filled-joined net.coupled xs l.symmetric a b (plain net.size net.coupled xs o (lawful-simple net l)).within,
   joined-filled net.coupled xs l.symmetric a b l.irreflexive o.once ne,
 )
 
-pub end-vertices : End-vertex
+pub end-vertices : EndVertexLaw
 end-vertices n H xs K s o c k f =
-    let cl : Clique H K xs = λ a b ia ib. clique-from H K (up_to n) k a b (in-upTo n a (o.only a ia)) (in-upTo n b (o.only b ib)) in
+    let cl : Clique H K xs = λ a b ia ib. clique-from H K (up_to n) k a b (in-up_to n a (o.only a ia)) (in-up_to n b (o.only b ib)) in
     let e : End H K xs = end-vertex H s.symmetric s.irreflexive xs (closed-from H xs c) K cl (f.0, o.all f.0 f.1, f.2) in
-    (e.0, o.only e.0 e.1, e.2, clique-to H (H e.0) (up_to n) (λ a b ia ib. e.3 a b (o.all a (upTo-in n a ia)) (o.all b (upTo-in n b ib))))
+    (e.0, o.only e.0 e.1, e.2, clique-to H (H e.0) (up_to n) (λ a b ia ib. e.3 a b (o.all a (up_to-in n a ia)) (o.all b (up_to-in n b ib))))
 
-pub less-fill-leaves-a-spare-pair : Less-fill-leaves-a-spare-pair
+pub less-fill-leaves-a-spare-pair : LessFillLeavesASparePair
 less-fill-leaves-a-spare-pair net xs l o ys oy p =
     let n = net.size in
     let C = net.coupled in
@@ -109,10 +109,10 @@ less-fill-leaves-a-spare-pair net xs l o ys oy p =
       spare-to n (filled C xs) t.0 t.1 t.4,
     )
 
-pub without-spare-fill-minimal : Without-spare-fill-minimal
+pub without-spare-fill-minimal : WithoutSpareFillMinimal
 without-spare-fill-minimal net xs l o none ys oy p = let t = less-fill-leaves-a-spare-pair net xs l o ys oy p in none t.0 t.1 t.2 t.4
 
-pub spare-pairs-can-go : Spare-pairs-can-go
+pub spare-pairs-can-go : SparePairsCanGo
 spare-pairs-can-go n H s p u v h e =
     let xs = p.0 in
     let o = p.1 in
@@ -121,13 +121,13 @@ spare-pairs-can-go n H s p u v h e =
     let t = removal H s.symmetric s.irreflexive u v h xs (closed-from H xs p.2) o.once (λ a b _ _ ne ua va ub vb. f a ua va b ne ub vb) (o.all u l.0) (o.all v l.1) in
     (t.0, record { once = t.2; all = λ a k. t.3 a (o.all a k); only = λ a j. o.only a (t.4 a j) }, closed-to (without H u v) t.0 t.1)
 
-pub any-station-last : Any-station-last
+pub any-station-last : AnyStationLast
 any-station-last n H s p r h =
     let o = p.1 in
     let t : EndsIn H r p.0 = ends-in H s.symmetric s.irreflexive r p.0 (closed-from H p.0 p.2) o.once (o.all r h) in
     (t.0, record { once = t.2; all = λ a k. t.3 a (o.all a k); only = λ a j. o.only a (t.4 a j) }, closed-to H t.0 t.1, t.5)
 
-pub seats-without-new-fill : Seats-without-new-fill
+pub seats-without-new-fill : SeatsWithoutNewFill
 seats-without-new-fill net xs l o r h =
     let n = net.size in
     let C = net.coupled in

@@ -4,10 +4,10 @@ use mathlib.Core.Path.{fun_ext}
 use Rattle.std.proofs.lemmas.Bool.{cases_Bool, cases_eq, cases_lt}
 use Rattle.std.proofs.lemmas.Bool.Decides.{nat_tests}
 use Rattle.network.specs.Bits.{count_to}
-use Rattle.network.proofs.Bits.{countTo-add, countTo-same, countTo-le}
-use Rattle.elimination.specs.Elimination.{pairsBelow}
+use Rattle.network.proofs.Bits.{count_to-add, count_to-same, count_to-le}
+use Rattle.elimination.specs.Elimination.{pairs_below}
 use Rattle.elimination.specs.Graphs.{Graph, apart, around, union, without}
-use Rattle.elimination.specs.Words.{between, struck, rowTaken}
+use Rattle.elimination.specs.Words.{between, struck, row_taken}
 use Rattle.elimination.proofs.Relations.{Symmetric, Irreflexive}
 
 -- no member of the row v from low up to, without, high
@@ -62,8 +62,8 @@ joining G v w a b = G a b || (ltb a w && around G v a b)
 pub joining-row : (G : Graph) (v w x : ℕ) → G v v ≡ false → joining G v w v x ≡ G v x
 joining-row G v w x h = grind (arith, nat_tests)
 
-pub joining-more : (G H : Graph) (v low w : ℕ) → Irreflexive G → H ≡ joining G v low → low ≤ w → H v w ≡ true → Gap H v low w → struck (rowTaken H w v) w w ≡ joining G v (w + 1)
-joining-more G H v low w ir e le here gap = ap (λ (K : Graph). struck (rowTaken K w v) w w) e ∙ fun_ext (λ a. fun_ext (λ b. at a b))
+pub joining-more : (G H : Graph) (v low w : ℕ) → Irreflexive G → H ≡ joining G v low → low ≤ w → H v w ≡ true → Gap H v low w → struck (row_taken H w v) w w ≡ joining G v (w + 1)
+joining-more G H v low w ir e le here gap = ap (λ (K : Graph). struck (row_taken K w v) w w) e ∙ fun_ext (λ a. fun_ext (λ b. at a b))
   where
     row : (x : ℕ) → H v x ≡ G v x
     row x = ap (λ (K : Graph). K v x) e ∙ joining-row G v low x (ir v)
@@ -71,16 +71,16 @@ joining-more G H v low w ir e le here gap = ap (λ (K : Graph). struck (rowTaken
     hit : G v w ≡ true
     hit = sym (row w) ∙ here
 
-    at : (a b : ℕ) → struck (rowTaken (joining G v low) w v) w w a b ≡ joining G v (w + 1) a b
+    at : (a b : ℕ) → struck (row_taken (joining G v low) w v) w w a b ≡ joining G v (w + 1) a b
     at a b = ⊎_elim same (λ (ne : a ≡ w → ⊥). other ne) (cases_eq a w)
       where
         rv : joining G v low v b ≡ G v b
         rv = joining-row G v low b (ir v)
 
-        same : a ≡ w → struck (rowTaken (joining G v low) w v) w w a b ≡ joining G v (w + 1) a b
+        same : a ≡ w → struck (row_taken (joining G v low) w v) w w a b ≡ joining G v (w + 1) a b
         same q = let ha : G v a ≡ true = ap (G v) q ∙ hit in let loop = ir a in ⊎_elim (λ (d : a ≡ b). let z : G a b ≡ false = ap (G a) (sym d) ∙ loop in grind (arith, nat_tests)) (λ (d : a ≡ b → ⊥). let r = rv in grind (arith, nat_tests)) (cases_eq a b)
 
-        other : (a ≡ w → ⊥) → struck (rowTaken (joining G v low) w v) w w a b ≡ joining G v (w + 1) a b
+        other : (a ≡ w → ⊥) → struck (row_taken (joining G v low) w v) w w a b ≡ joining G v (w + 1) a b
         other ne = ⊎_elim (λ (l : a < low). grind (arith, nat_tests)) (λ (l : low ≤ a). ⊎_elim (λ (h : a < w). let z : G v a ≡ false = sym (row a) ∙ gap a l h in grind (arith, nat_tests)) (λ (h : w ≤ a). grind (arith, nat_tests)) (cases_lt a w)) (cases_lt a low)
 
 pub joining-all : (G H : Graph) (v low : ℕ) → G v v ≡ false → ((a b : ℕ) → G a b ≡ true → (a < 512) × (b < 512)) → H ≡ joining G v low → Gap H v low 512 → H ≡ union G (around G v)
@@ -106,9 +106,9 @@ count_none p (suc n) f = let ih = count_none p n (λ k h. f k (omega arith)) in 
 pub count-lower : (G : Graph) (a : ℕ) → a ≤ 512 → count_to (between G a 0 a) 512 ≡ count_to (G a) a
 count-lower G a h =
     let e : a + (512 - a) ≡ 512 = omega arith in
-    let parts = countTo-add (between G a 0 a) a (512 - a) in
+    let parts = count_to-add (between G a 0 a) a (512 - a) in
     let high = count_none (λ k. between G a 0 a (a + k)) (512 - a) (λ k l. none k) in
-    let low = countTo-same (between G a 0 a) (G a) a (λ k l. some k l) in
+    let low = count_to-same (between G a 0 a) (G a) a (λ k l. some k l) in
     sym (ap (count_to (between G a 0 a)) e) ∙ parts ∙ omega arith
   where
     none : (k : ℕ) → between G a 0 a (a + k) ≡ false
@@ -117,15 +117,15 @@ count-lower G a h =
     some : (k : ℕ) → k < a → between G a 0 a k ≡ G a k
     some k l = grind (arith, nat_tests)
 
-pub pairs-none : (G : Graph) → pairsBelow 0 G ≡ 0
-unfolding pairsBelow
+pub pairs-none : (G : Graph) → pairs_below 0 G ≡ 0
+unfolding pairs_below
 pairs-none G = refl
 
-pub pairs-more : (n : ℕ) (G : Graph) → pairsBelow (n + 1) G ≡ pairsBelow n G + count_to (G n) n
-unfolding pairsBelow
+pub pairs-more : (n : ℕ) (G : Graph) → pairs_below (n + 1) G ≡ pairs_below n G + count_to (G n) n
+unfolding pairs_below
 pairs-more n G = let e : n + 1 ≡ suc n = omega arith in rw e
 
-pub pairs-le : (n : ℕ) (G : Graph) → n ≤ 512 → pairsBelow n G ≤ 512 * n
-unfolding pairsBelow
+pub pairs-le : (n : ℕ) (G : Graph) → n ≤ 512 → pairs_below n G ≤ 512 * n
+unfolding pairs_below
 pairs-le zero G h = omega arith
-pairs-le (suc n) G h = omega (arith, pairs-le n G (omega arith), countTo-le (G n) n)
+pairs-le (suc n) G h = omega (arith, pairs-le n G (omega arith), count_to-le (G n) n)

@@ -9,22 +9,22 @@ abbrev pub inserts : ℕ → List ℕ → List (List ℕ)
 inserts x [] = (x ∷ []) ∷ []
 inserts x (y ∷ ys) = (x ∷ y ∷ ys) ∷ map (λ zs. y ∷ zs) (inserts x ys)
 
-abbrev pub insertsEach : ℕ → List (List ℕ) → List (List ℕ)
-insertsEach x [] = []
-insertsEach x (ys ∷ yss) = inserts x ys ++ insertsEach x yss
+abbrev pub inserts_each : ℕ → List (List ℕ) → List (List ℕ)
+inserts_each x [] = []
+inserts_each x (ys ∷ yss) = inserts x ys ++ inserts_each x yss
 
 -- every order of the stations below n
 abbrev pub orders : ℕ → List (List ℕ)
 orders zero = [] ∷ []
-orders (suc n) = insertsEach n (orders n)
+orders (suc n) = inserts_each n (orders n)
 
-abbrev pub everyOrder : (List ℕ → Bool) → List (List ℕ) → Bool
-everyOrder p [] = true
-everyOrder p (xs ∷ xss) = p xs && everyOrder p xss
+abbrev pub every_order : (List ℕ → Bool) → List (List ℕ) → Bool
+every_order p [] = true
+every_order p (xs ∷ xss) = p xs && every_order p xss
 
-abbrev pub someOrder : (List ℕ → Bool) → List (List ℕ) → Bool
-someOrder p [] = false
-someOrder p (xs ∷ xss) = p xs || someOrder p xss
+abbrev pub some_order : (List ℕ → Bool) → List (List ℕ) → Bool
+some_order p [] = false
+some_order p (xs ∷ xss) = p xs || some_order p xss
 
 -- every pair of F of stations below n is one of G
 abbrev pub within : ℕ → Graph → Graph → Bool
@@ -32,7 +32,7 @@ within n F G = every (λ a. every (λ b. not (F a b) || G a b) (up_to n)) (up_to
 
 -- no order has a fill that is a proper part of the fill of xs: a fill that lies within it is all of it
 abbrev pub minimal : ℕ → Graph → List ℕ → Bool
-minimal n C xs = everyOrder (λ ys. not (within n (fill C ys) (fill C xs)) || within n (fill C xs) (fill C ys)) (orders n)
+minimal n C xs = every_order (λ ys. not (within n (fill C ys) (fill C xs)) || within n (fill C xs) (fill C ys)) (orders n)
 
 -- xs is one of the lists
 abbrev pub Listed : List ℕ → List (List ℕ) → Type 0

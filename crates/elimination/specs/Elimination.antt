@@ -22,9 +22,9 @@ abbrev pub fill : Graph → List ℕ → Graph
 fill C xs = beyond (filled C xs) C
 
 -- how many members pass the test
-abbrev pub howMany : (ℕ → Bool) → List ℕ → ℕ
-howMany p [] = 0
-howMany p (x ∷ xs) = cond (p x) 1 0 + howMany p xs
+abbrev pub how_many : (ℕ → Bool) → List ℕ → ℕ
+how_many p [] = 0
+how_many p (x ∷ xs) = cond (p x) 1 0 + how_many p xs
 
 -- the first member that passes the test
 abbrev pub first_of : (ℕ → Bool) → List ℕ → Option ℕ
@@ -36,30 +36,30 @@ or_else (Some a) other = Some a
 or_else None other = other
 
 -- the number of later stations that are neighbours of s in F
-abbrev pub laterNeighbours : Graph → List ℕ → ℕ → ℕ
-laterNeighbours F xs s = howMany (F s) (later xs s)
+abbrev pub later_neighbour_count : Graph → List ℕ → ℕ → ℕ
+later_neighbour_count F xs s = how_many (F s) (later xs s)
 
 -- the earliest later station that is a neighbour of s in F; if there is none, the last station, and none for the last one
-abbrev pub hangsFrom : Graph → List ℕ → ℕ → Option ℕ
-hangsFrom F xs s = or_else (first_of (F s) (later xs s)) (last_of (later xs s))
+abbrev pub hanging_from : Graph → List ℕ → ℕ → Option ℕ
+hanging_from F xs s = or_else (first_of (F s) (later xs s)) (last_of (later xs s))
 
 -- the number of filled pairs that a station forms with later ones
 abbrev pub count : Graph → List ℕ → ℕ → ℕ
-count C xs s = laterNeighbours (filled C xs) xs s
+count C xs s = later_neighbour_count (filled C xs) xs s
 
 -- the earliest later station with which a station forms a filled pair; if there is none, the last station of the order;
 -- the last station has no parent
 abbrev pub parent : Graph → List ℕ → ℕ → Option ℕ
-parent C xs s = hangsFrom (filled C xs) xs s
+parent C xs s = hanging_from (filled C xs) xs s
 
 -- the number of pairs of stations below n
-unfoldable pub pairsBelow : ℕ → Graph → ℕ
-pairsBelow zero G = 0
-pairsBelow (suc n) G = pairsBelow n G + count_to (G n) n
+unfoldable pub pairs_below : ℕ → Graph → ℕ
+pairs_below zero G = 0
+pairs_below (suc n) G = pairs_below n G + count_to (G n) n
 
 -- the number of fill pairs
 abbrev pub total : ℕ → Graph → List ℕ → ℕ
-total n C xs = pairsBelow n (fill C xs)
+total n C xs = pairs_below n (fill C xs)
 
 -- from a over the members of the list in turn to b, each a neighbour of the next
 abbrev pub path : Graph → ℕ → List ℕ → ℕ → Bool

@@ -1,8 +1,8 @@
 -- Small networks with an order each, and what is claimed of them: one table, and one test that computes.
 use Rattle.std.specs.Prelude.{ℕ, ◌+◌, Bool, true, false, not, ◌&&◌, ◌||◌, List, [], ◌∷◌, is_some, Some, None, Option, ◌==◌, nat_lt}
-use Rattle.network.specs.Orders.{orderFault}
-use Rattle.elimination.specs.AllOrders.{everyOrder, minimal, orders, someOrder, within}
-use Rattle.elimination.specs.Elimination.{count, fill, filled, pairsBelow, parent}
+use Rattle.network.specs.Orders.{order_fault}
+use Rattle.elimination.specs.AllOrders.{every_order, minimal, orders, some_order, within}
+use Rattle.elimination.specs.Elimination.{count, fill, filled, pairs_below, parent}
 use Rattle.elimination.specs.Graphs.{Graph}
 use Rattle.elimination.specs.Orders.{last_of}
 
@@ -27,9 +27,9 @@ pub data Claim : Type 0 where
   -- the stations and the filled pairs together are so many
   places : ℕ → Claim
   -- some order has no fill
-  some-without-fill : Claim
+  some_without_fill : Claim
   -- every order has fill
-  none-without-fill : Claim
+  none_without_fill : Claim
   -- exactly one order ends in a station and has no other fill
   seats : ℕ → List ℕ → Claim
   -- every minimal order whose fill lies within has exactly this fill
@@ -58,27 +58,27 @@ same_list [] (y ∷ ys) = false
 same_list (x ∷ xs) [] = false
 same_list (x ∷ xs) (y ∷ ys) = x == y && same_list xs ys
 
-abbrev pub sameStation : Option ℕ → Option ℕ → Bool
-sameStation None None = true
-sameStation None (Some b) = false
-sameStation (Some a) None = false
-sameStation (Some a) (Some b) = a == b
+abbrev pub same_station : Option ℕ → Option ℕ → Bool
+same_station None None = true
+same_station None (Some b) = false
+same_station (Some a) None = false
+same_station (Some a) (Some b) = a == b
 
 abbrev pub holds : ℕ → Graph → List ℕ → Claim → Bool
 holds n C xs (fills ps) = alike n (fill C xs) (graph_of ps)
-holds n C xs (places k) = n + pairsBelow n (filled C xs) == k
-holds n C xs some-without-fill = someOrder (λ ys. within n (fill C ys) none) (orders n)
-holds n C xs none-without-fill = not (someOrder (λ ys. within n (fill C ys) none) (orders n))
-holds n C xs (seats s zs) = everyOrder (λ ys. not (sameStation (last_of ys) (Some s) && within n (fill C ys) (fill C xs)) || same_list ys zs) (orders n)
-    && (sameStation (last_of zs) (Some s) && within n (fill C zs) (fill C xs))
-holds n C xs (tightens ps) = everyOrder (λ ys. not (within n (fill C ys) (fill C xs)) || (not (minimal n C ys) || alike n (fill C ys) (graph_of ps))) (orders n)
-    && someOrder (λ ys. within n (fill C ys) (fill C xs) && minimal n C ys) (orders n)
-holds n C xs (parent_of s p) = sameStation (parent C xs s) p
+holds n C xs (places k) = n + pairs_below n (filled C xs) == k
+holds n C xs some_without_fill = some_order (λ ys. within n (fill C ys) none) (orders n)
+holds n C xs none_without_fill = not (some_order (λ ys. within n (fill C ys) none) (orders n))
+holds n C xs (seats s zs) = every_order (λ ys. not (same_station (last_of ys) (Some s) && within n (fill C ys) (fill C xs)) || same_list ys zs) (orders n)
+    && (same_station (last_of zs) (Some s) && within n (fill C zs) (fill C xs))
+holds n C xs (tightens ps) = every_order (λ ys. not (within n (fill C ys) (fill C xs)) || (not (minimal n C ys) || alike n (fill C ys) (graph_of ps))) (orders n)
+    && some_order (λ ys. within n (fill C ys) (fill C xs) && minimal n C ys) (orders n)
+holds n C xs (parent_of s p) = same_station (parent C xs s) p
 holds n C xs (count_of s k) = count C xs s == k
 
-abbrev pub holdAll : ℕ → Graph → List ℕ → List Claim → Bool
-holdAll n C xs [] = true
-holdAll n C xs (claim ∷ rest) = holds n C xs claim && holdAll n C xs rest
+abbrev pub hold_all : ℕ → Graph → List ℕ → List Claim → Bool
+hold_all n C xs [] = true
+hold_all n C xs (claim ∷ rest) = holds n C xs claim && hold_all n C xs rest
 
 -- the couplings are pairs of stations
 abbrev pub proper : ℕ → List Pair → Bool
@@ -87,18 +87,18 @@ proper n (p ∷ ps) = (nat_lt p.low p.high && nat_lt p.high n) && proper n ps
 
 -- the order is one, and every claim holds
 abbrev pub stands : Case → Bool
-stands c = proper c.stations c.couplings && (not (is_some (orderFault c.order c.stations)) && holdAll c.stations (graph_of c.couplings) c.order c.claims)
+stands c = proper c.stations c.couplings && (not (is_some (order_fault c.order c.stations)) && hold_all c.stations (graph_of c.couplings) c.order c.claims)
 
-abbrev pub allStand : List Case → Bool
-allStand [] = true
-allStand (c ∷ rest) = stands c && allStand rest
+abbrev pub all_stand : List Case → Bool
+all_stand [] = true
+all_stand (c ∷ rest) = stands c && all_stand rest
 
 abbrev pub star : Case
 star = record {
   stations = 4;
   couplings = 0 — 1 ∷ 0 — 2 ∷ 0 — 3 ∷ [];
   order = 0 ∷ 1 ∷ 2 ∷ 3 ∷ [];
-  claims = fills (1 — 2 ∷ 1 — 3 ∷ 2 — 3 ∷ []) ∷ places 10 ∷ some-without-fill ∷ [];
+  claims = fills (1 — 2 ∷ 1 — 3 ∷ 2 — 3 ∷ []) ∷ places 10 ∷ some_without_fill ∷ [];
 }
 
 -- the path 0-1-2
@@ -115,28 +115,28 @@ ring = record {
   stations = 4;
   couplings = 0 — 1 ∷ 1 — 2 ∷ 2 — 3 ∷ 0 — 3 ∷ [];
   order = 0 ∷ 1 ∷ 2 ∷ 3 ∷ [];
-  claims = fills (1 — 3 ∷ []) ∷ none-without-fill ∷ [];
+  claims = fills (1 — 3 ∷ []) ∷ none_without_fill ∷ [];
 }
 
 -- that ring, with 4 coupled to 0
-abbrev pub ringWithPendant : Case
-ringWithPendant = record {
+abbrev pub ring_with_pendant : Case
+ring_with_pendant = record {
   stations = 5;
   couplings = 0 — 1 ∷ 1 — 2 ∷ 2 — 3 ∷ 0 — 3 ∷ 0 — 4 ∷ [];
   order = 0 ∷ 1 ∷ 2 ∷ 3 ∷ 4 ∷ [];
   claims = fills (1 — 3 ∷ 1 — 4 ∷ 3 — 4 ∷ 2 — 4 ∷ []) ∷ tightens (1 — 3 ∷ []) ∷ [];
 }
 
-abbrev pub oneStation : Case
-oneStation = record {
+abbrev pub one_station : Case
+one_station = record {
   stations = 1;
   couplings = [];
   order = 0 ∷ [];
   claims = fills [] ∷ places 1 ∷ parent_of 0 None ∷ [];
 }
 
-abbrev pub twoUncoupled : Case
-twoUncoupled = record {
+abbrev pub two_uncoupled : Case
+two_uncoupled = record {
   stations = 2;
   couplings = [];
   order = 0 ∷ 1 ∷ [];
@@ -144,4 +144,4 @@ twoUncoupled = record {
 }
 
 abbrev pub table : List Case
-table = star ∷ chain ∷ ring ∷ ringWithPendant ∷ oneStation ∷ twoUncoupled ∷ []
+table = star ∷ chain ∷ ring ∷ ring_with_pendant ∷ one_station ∷ two_uncoupled ∷ []

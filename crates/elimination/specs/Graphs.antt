@@ -59,8 +59,8 @@ abbrev pub union : Graph → Graph → Graph
 union G H a b = G a b || H a b
 
 -- the pairs of G at v
-abbrev pub pairsAt : Graph → ℕ → Graph
-pairsAt G v a b = G a b && (a == v || b == v)
+abbrev pub pairs_at : Graph → ℕ → Graph
+pairs_at G v a b = G a b && (a == v || b == v)
 
 -- every two neighbours of v
 abbrev pub around : Graph → ℕ → Graph

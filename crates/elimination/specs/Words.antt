@@ -1,7 +1,7 @@
 -- The words of a set of pairs: 512 rows of eight words, a bit for each two stations.
 use Rattle.std.specs.Prelude.{◌≡◌, ℕ, ◌+◌, ◌-◌, ◌*◌, ◌/◌, ◌%◌, Bool, not, ◌&&◌, ◌||◌, List, Option, ◌==◌, nat_lt, slice_index}
 use Rattle.network.specs.Bits.{bit_at}
-use Rattle.network.specs.Net.{firstFrom}
+use Rattle.network.specs.Net.{first_from}
 use Rattle.elimination.specs.Graphs.{Graph, every}
 use Rattle.elimination.specs.Orders.{up_to}
 
@@ -26,17 +26,17 @@ abbrev pub struck : Graph → ℕ → ℕ → Graph
 struck G a b x y = G x y && not (x == a && y == b)
 
 -- G with the row v in the row a
-abbrev pub rowTaken : Graph → ℕ → ℕ → Graph
-rowTaken G a v x y = G x y || (x == a && G v y)
+abbrev pub row_taken : Graph → ℕ → ℕ → Graph
+row_taken G a v x y = G x y || (x == a && G v y)
 
 -- whether x is in the row a, not below low, and below high
 abbrev pub between : Graph → ℕ → ℕ → ℕ → ℕ → Bool
 between G a low high x = G a x && (nat_lt x high && not (nat_lt x low))
 
 -- the first station not below `from` that is in the row a
-abbrev pub nextIn : Graph → ℕ → ℕ → Option ℕ
-nextIn G a from = firstFrom (G a) from (512 - from)
+abbrev pub next_of : Graph → ℕ → ℕ → Option ℕ
+next_of G a from = first_from (G a) from (512 - from)
 
 -- every common member below n of the rows a and b, but c itself, lies in the row c
-unfoldable pub commonWithin : ℕ → Graph → ℕ → ℕ → ℕ → Bool
-commonWithin n G a b c = every (λ x. not (G a x && (G b x && not (x == c))) || G c x) (up_to n)
+unfoldable pub has_common_within : ℕ → Graph → ℕ → ℕ → ℕ → Bool
+has_common_within n G a b c = every (λ x. not (G a x && (G b x && not (x == c))) || G c x) (up_to n)

@@ -5,7 +5,7 @@ ghost use Rattle.std.specs.Prelude.{◌≡◌, ℕ, ◌<◌, ◌≤◌, true, fa
 ghost use Rattle.elimination.specs.Dropping.{Looked, LookedTo, Lost, Ready, Tight, marked};
 ghost use Rattle.elimination.specs.Graphs.{Sub, spare, without};
 ghost use Rattle.elimination.specs.View.{graph};
-ghost use Rattle.elimination.specs.Words.{commonWithin};
+ghost use Rattle.elimination.specs.Words.{has_common_within};
 
 use crate::marks::all_marked;
 use crate::pair_set::PairSet;
@@ -15,7 +15,7 @@ fn meets(pairs: &PairSet, u: usize, v: usize, a: usize) -> bool
     requires one { u < 512 }
     requires two { v < 512 }
     requires third { a < 512 }
-    ensures { result ≡ (not (graph pairs.now v a) || commonWithin 512 (graph pairs.now) u v a) }
+    ensures { result ≡ (not (graph pairs.now v a) || has_common_within 512 (graph pairs.now) u v a) }
 {
     !pairs.contains(v, a) || pairs.common_within(u, v, a)
 }

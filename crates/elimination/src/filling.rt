@@ -2,7 +2,7 @@
 //! For f filled pairs of n stations it takes about f·n/64 word steps.
 ghost use Rattle.std.specs.Prelude.{◌≡◌, ℕ, ◌<◌, false};
 ghost use Rattle.elimination.specs.Elimination.{after, filled};
-ghost use Rattle.elimination.specs.Graphs.{Simple, pairsAt, union};
+ghost use Rattle.elimination.specs.Graphs.{Simple, pairs_at, union};
 ghost use Rattle.elimination.specs.View.{graph, listed};
 
 use crate::order::EliminationOrder;
@@ -11,7 +11,7 @@ use crate::pair_set::PairSet;
 /// Puts the pairs of `v` in `work` into `gathered`.
 fn keep_pairs(gathered: &mut PairSet, work: &PairSet, v: usize)
     requires { v < 512 }
-    ensures { graph gathered.new ≡ union (graph gathered.old) (pairsAt (graph work.now) v) }
+    ensures { graph gathered.new ≡ union (graph gathered.old) (pairs_at (graph work.now) v) }
 {
     let mut from = 0;
     while let Some(a) = work.next(v, from) {

@@ -1,7 +1,7 @@
 //! The elimination tree of an order and its counts, from the filled pairs.
 //! `couplings` and `pairs` are those of one network and order: `pairs` are the filled pairs of that order.
 ghost use Rattle.std.specs.Prelude.{◌≡◌, ◌<◌, ◌≤◌};
-ghost use Rattle.elimination.specs.Elimination.{beyond, count, filled, hangsFrom, laterNeighbours, pairsBelow, parent, total};
+ghost use Rattle.elimination.specs.Elimination.{beyond, count, filled, hanging_from, later_neighbour_count, pairs_below, parent, total};
 ghost use Rattle.elimination.specs.Graphs.{Sub};
 ghost use Rattle.elimination.specs.View.{graph, listed};
 
@@ -11,7 +11,7 @@ use crate::pair_set::PairSet;
 /// The earliest later neighbour of a station, else the last station; the last one has none. It looks at each later station at most once.
 fn hangs_from(pairs: &PairSet, order: &EliminationOrder, station: u16) -> Option<u16>
     requires { station < order.now.size }
-    ensures { result ≡ hangsFrom (graph pairs.now) (listed order.now) station }
+    ensures { result ≡ hanging_from (graph pairs.now) (listed order.now) station }
 {
     let size = order.size();
     let first = order.position(station) + 1;
@@ -31,7 +31,7 @@ fn hangs_from(pairs: &PairSet, order: &EliminationOrder, station: u16) -> Option
 /// How many later neighbours a station has. It looks at each later station once.
 fn later_neighbours(pairs: &PairSet, order: &EliminationOrder, station: u16) -> u16
     requires { station < order.now.size }
-    ensures { result ≡ laterNeighbours (graph pairs.now) (listed order.now) station }
+    ensures { result ≡ later_neighbour_count (graph pairs.now) (listed order.now) station }
 {
     let mut found = 0;
     for k in order.position(station) + 1..order.size() {
@@ -69,7 +69,7 @@ pub fn count_of(couplings: &PairSet, pairs: &PairSet, order: &EliminationOrder, 
 fn count_beyond(couplings: &PairSet, pairs: &PairSet, n: usize) -> u32
     requires few { n ≤ 512 }
     requires within { Sub (graph couplings.now) (graph pairs.now) }
-    ensures { result ≡ pairsBelow n (beyond (graph pairs.now) (graph couplings.now)) }
+    ensures { result ≡ pairs_below n (beyond (graph pairs.now) (graph couplings.now)) }
 {
     pairs.count_pairs(n) - couplings.count_pairs(n)
 }

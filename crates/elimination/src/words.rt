@@ -3,9 +3,9 @@
 ghost use Rattle.std.specs.Prelude.{◌≡◌, ℕ, ◌+◌, ◌*◌, ◌<◌, ◌≤◌, false, ◌||◌, replicate, ◌==◌, nat_lt};
 ghost use Rattle.network.specs.Bits.{bit_at, count_to};
 ghost use Rattle.network.specs.Laws.{FirstIs};
-ghost use Rattle.elimination.specs.Elimination.{pairsBelow};
+ghost use Rattle.elimination.specs.Elimination.{pairs_below};
 ghost use Rattle.elimination.specs.Graphs.{around, union};
-ghost use Rattle.elimination.specs.Words.{between, commonWithin, has, nextIn, placed, rows, rowTaken, struck};
+ghost use Rattle.elimination.specs.Words.{between, has_common_within, has, next_of, placed, rows, row_taken, struck};
 
 /// Words without any pair.
 pub(crate) fn no_pairs() -> [u64; 4096]
@@ -59,7 +59,7 @@ fn below(n: usize, k: usize) -> u64
 /// The first station not below `from` in row `a`: at most eight word steps.
 pub(crate) fn next_in(words: &[u64; 4096], a: usize, from: usize) -> Option<usize>
     requires { a < 512 }
-    ensures value { result ≡ nextIn (rows words.now) a from }
+    ensures value { result ≡ next_of (rows words.now) a from }
     ensures first { FirstIs (rows words.now a) from 512 result }
 {
     for k in from / 64..8 {
@@ -75,7 +75,7 @@ pub(crate) fn next_in(words: &[u64; 4096], a: usize, from: usize) -> Option<usiz
 pub(crate) fn take_row(words: &mut [u64; 4096], a: usize, v: usize)
     requires one { a < 512 }
     requires two { v < 512 }
-    ensures { rows words.new ≡ rowTaken (rows words.old) a v }
+    ensures { rows words.new ≡ row_taken (rows words.old) a v }
 {
     for k in 0..8 {
         words[a * 8 + k] |= words[v * 8 + k];
@@ -101,7 +101,7 @@ pub(crate) fn common_within(words: &[u64; 4096], a: usize, b: usize, c: usize) -
     requires one { a < 512 }
     requires two { b < 512 }
     requires third { c < 512 }
-    ensures { result ≡ commonWithin 512 (rows words.now) a b c }
+    ensures { result ≡ has_common_within 512 (rows words.now) a b c }
 {
     for k in 0..8 {
         let own = with_own(words, c, k);
@@ -129,7 +129,7 @@ pub(crate) fn count_between(words: &[u64; 4096], a: usize, low: usize, high: usi
 /// How many pairs of stations below `n` there are, each in the row of its larger station: eight word steps for each row.
 pub(crate) fn count_rows(words: &[u64; 4096], n: usize) -> u32
     requires { n ≤ 512 }
-    ensures value { result ≡ pairsBelow n (rows words.now) }
+    ensures value { result ≡ pairs_below n (rows words.now) }
     ensures small { result ≤ 512 * n }
 {
     let mut total = 0;

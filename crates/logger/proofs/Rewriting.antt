@@ -4,24 +4,24 @@ use Rattle.std.specs.Str.{bytes_eq}
 use Rattle.std.proofs.lemmas.Slice.Eq.{bytes_eq-Decides}
 use Rattle.std.proofs.lemmas.List.{take_all, take-append-le}
 use Rattle.std.proofs.lemmas.Bool.{ltb-false, le-ltb, cond-false}
-use Rattle.network.specs.Decode.{decode, reading, fitting, done, orderAfter, heldAfter}
-use Rattle.network.specs.Encode.{bytes_of, writeFault, bufferAfter}
+use Rattle.network.specs.Decode.{decode, reading, fitting, done, order_after, held_after}
+use Rattle.network.specs.Encode.{bytes_of, write_fault, buffer_after}
 use Rattle.network.specs.Laws.{Bytes}
 use Rattle.network.specs.Net.{Net}
-use Rattle.network.specs.Orders.{orderFault}
+use Rattle.network.specs.Orders.{order_fault}
 use Rattle.network.specs.Refusals.{Fault, at, refuse, or_else, unless}
-use Rattle.network.specs.Sheets.{Sheet, Well, sheetNet, sheetFrom, pairsTo}
-use Rattle.network.proofs.Faults.{orElse-none, orElse-past, cond-none-else, unless-ok}
+use Rattle.network.specs.Sheets.{Sheet, Well, sheet_net, sheet_from, pairs_to}
+use Rattle.network.proofs.Faults.{or_else-none, or_else-past, cond-none-else, unless-ok}
 use Rattle.network.proofs.SheetNets.{read-ordered, read-same-sheet, read-same-bytes}
 use Rattle.network.proofs.Wells.{read-well}
-use Rattle.logger.specs.Reports.{inspected, againAfter, reportOf}
+use Rattle.logger.specs.Reports.{inspected, again_after, report_of}
 use Rattle.logger.specs.declared.report.Report.{Report}
 
 -- what was written fits the buffer
-pub write-room : (net : Net) (order : List ℕ) (l : ℕ) → writeFault net order l ≡ None → length (bytes_of net order) ≤ l
-unfolding writeFault
+pub write-room : (net : Net) (order : List ℕ) (l : ℕ) → write_fault net order l ≡ None → length (bytes_of net order) ≤ l
+unfolding write_fault
 write-room net order l h =
-    let both = orElse-none (orderFault order net.size) _ h in
+    let both = or_else-none (order_fault order net.size) _ h in
     ltb-false _ _ (cond-none-else (ltb l (length (bytes_of net order))) None 16 (length (bytes_of net order)) both.1).0
 
 -- a list of 512 numbers has room for every order
@@ -48,20 +48,20 @@ read-accepted bs h = go (decode bs) (h ∙ ap done (read_whole bs)) refl
 
 -- the sheet s was read from the bytes, and is written into a buffer of length l
 module _ (bs : List ℕ) (s : Sheet) (b : Bytes bs) (d : decode bs ≡ Ok s) (l : ℕ) where
-  pub write-fault : writeFault (sheetNet s) s.order l ≡ cond (ltb l (length bs)) (refuse 16 (length bs)) None
-  unfolding writeFault
+  pub write-fault : write_fault (sheet_net s) s.order l ≡ cond (ltb l (length bs)) (refuse 16 (length bs)) None
+  unfolding write_fault
   write-fault =
-      orElse-past _ _ (read-ordered bs s d)
+      or_else-past _ _ (read-ordered bs s d)
       ∙ ap (λ bytes. cond (ltb l (length bytes)) (refuse 16 (length bytes)) None) (read-same-bytes bs s b d)
 
-  pub report-is : reportOf (sheetNet s) s.order bs ≡ record { stations = s.size; couplings = length s.couplings; bytes = length bs; same = true }
+  pub report-is : report_of (sheet_net s) s.order bs ≡ record { stations = s.size; couplings = length s.couplings; bytes = length bs; same = true }
   report-is =
       let make : List (ℕ × ℕ) → List ℕ → Report = λ pairs bytes. record { stations = s.size; couplings = length pairs; bytes = length bytes; same = bytes_eq bs bytes } in
       let same : bytes_eq bs bs ≡ true = (bytes_eq-Decides bs bs).1 refl in
       ap₂ make (ap (λ (t : Sheet). t.couplings) (read-same-sheet bs s d)) (read-same-bytes bs s b d)
       ∙ ap (λ (t : Bool). record { stations = s.size; couplings = length s.couplings; bytes = length bs; same = t }) same
 
-  pub outcome-is : unless (writeFault (sheetNet s) s.order l) (reportOf (sheetNet s) s.order bs) ≡ inspected (decode bs) bs l
+  pub outcome-is : unless (write_fault (sheet_net s) s.order l) (report_of (sheet_net s) s.order bs) ≡ inspected (decode bs) bs l
   outcome-is =
       let whole : Report = record { stations = s.size; couplings = length s.couplings; bytes = length bs; same = true } in
       ap₂ unless write-fault report-is ∙ checked whole (ltb l (length bs)) ∙ sym (ap (λ r. inspected r bs l) d)
@@ -70,13 +70,13 @@ module _ (bs : List ℕ) (s : Sheet) (b : Bytes bs) (d : decode bs ≡ Ok s) (l 
       checked r true = refl
       checked r false = refl
 
-  pub buffer-is : (old : List ℕ) → l ≡ length old → bufferAfter (writeFault (sheetNet s) s.order l) (bytes_of (sheetNet s) s.order) old ≡ againAfter (decode bs) bs old
+  pub buffer-is : (old : List ℕ) → l ≡ length old → buffer_after (write_fault (sheet_net s) s.order l) (bytes_of (sheet_net s) s.order) old ≡ again_after (decode bs) bs old
   buffer-is old e =
-      ap₂ (λ o bytes. bufferAfter o bytes old) write-fault (read-same-bytes bs s b d)
-      ∙ ap (λ (x : ℕ). bufferAfter (cond (ltb x (length bs)) (refuse 16 (length bs)) None) bs old) e
-      ∙ left (ltb (length old) (length bs)) ∙ sym (ap (λ r. againAfter r bs old) d)
+      ap₂ (λ o bytes. buffer_after o bytes old) write-fault (read-same-bytes bs s b d)
+      ∙ ap (λ (x : ℕ). buffer_after (cond (ltb x (length bs)) (refuse 16 (length bs)) None) bs old) e
+      ∙ left (ltb (length old) (length bs)) ∙ sym (ap (λ r. again_after r bs old) d)
     where
-      left : (t : Bool) → bufferAfter (cond t (refuse 16 (length bs)) None) bs old ≡ cond t old (bs ++ drop (length bs) old)
+      left : (t : Bool) → buffer_after (cond t (refuse 16 (length bs)) None) bs old ≡ cond t old (bs ++ drop (length bs) old)
       left true = refl
       left false = refl
 

@@ -4,14 +4,14 @@ use Rattle.std.specs.Str.{bytes_eq}
 use Rattle.network.specs.Encode.{bytes_of}
 use Rattle.network.specs.Net.{Net}
 use Rattle.network.specs.Refusals.{Fault, at}
-use Rattle.network.specs.Sheets.{Sheet, pairsTo}
+use Rattle.network.specs.Sheets.{Sheet, pairs_to}
 use Rattle.logger.specs.declared.report.Report.{Report}
 
 -- the report on a network and an order that were written, beside the bytes of a sheet
-abbrev pub reportOf : Net → List ℕ → List ℕ → Report
-reportOf net order bytes = record {
+abbrev pub report_of : Net → List ℕ → List ℕ → Report
+report_of net order bytes = record {
   stations = net.size;
-  couplings = length (pairsTo net.coupled net.size);
+  couplings = length (pairs_to net.coupled net.size);
   bytes = length (bytes_of net order);
   same = bytes_eq bytes (bytes_of net order);
 }
@@ -25,6 +25,6 @@ inspected (Ok s) bytes room =
     (Ok (record { stations = s.size; couplings = length s.couplings; bytes = length bytes; same = true }))
 
 -- the second buffer afterwards: the sheet's own bytes, and its tail
-abbrev pub againAfter : Result Sheet Fault → List ℕ → List ℕ → List ℕ
-againAfter (Err f) bytes old = old
-againAfter (Ok s) bytes old = cond (nat_lt (length old) (length bytes)) old (bytes ++ drop (length bytes) old)
+abbrev pub again_after : Result Sheet Fault → List ℕ → List ℕ → List ℕ
+again_after (Err f) bytes old = old
+again_after (Ok s) bytes old = cond (nat_lt (length old) (length bytes)) old (bytes ++ drop (length bytes) old)

@@ -3,9 +3,9 @@
 ghost use Rattle.std.specs.Prelude.{◌≡◌, length};
 ghost use Rattle.std.specs.Str.{bytes_eq};
 ghost use Rattle.network.specs.Decode.{decode};
-ghost use Rattle.network.specs.Encode.{bytes_of, writeFault, bufferAfter};
+ghost use Rattle.network.specs.Encode.{bytes_of, write_fault, buffer_after};
 ghost use Rattle.network.specs.Refusals.{outcome, unless};
-ghost use Rattle.logger.specs.Reports.{inspected, againAfter, reportOf};
+ghost use Rattle.logger.specs.Reports.{inspected, again_after, report_of};
 
 use network::{Network, Refusal, SheetNetwork, count_couplings, read_sheet, write_sheet};
 
@@ -32,8 +32,8 @@ fn rewrite<N: Network>(
     sheet: &[u8],
     again: &mut [u8],
 ) -> Result<Report, Refusal>
-    ensures answer { outcome result ≡ unless (writeFault (N.Network.meaning network.now) order.now (length again.old)) (reportOf (N.Network.meaning network.now) order.now sheet.now) }
-    ensures again { again.new ≡ bufferAfter (writeFault (N.Network.meaning network.now) order.now (length again.old)) (bytes_of (N.Network.meaning network.now) order.now) again.old }
+    ensures answer { outcome result ≡ unless (write_fault (N.Network.meaning network.now) order.now (length again.old)) (report_of (N.Network.meaning network.now) order.now sheet.now) }
+    ensures again { again.new ≡ buffer_after (write_fault (N.Network.meaning network.now) order.now (length again.old)) (bytes_of (N.Network.meaning network.now) order.now) again.old }
 {
     let stations = network.size();
     let couplings = count_couplings(network);
@@ -50,7 +50,7 @@ fn rewrite<N: Network>(
 /// Reads the sheet, and writes what was read into the second buffer: the same bytes, or the refusal.
 pub fn inspect(sheet: &[u8], again: &mut [u8]) -> Result<Report, Refusal>
     ensures answer { outcome result ≡ inspected (decode sheet.now) sheet.now (length again.old) }
-    ensures again { again.new ≡ againAfter (decode sheet.now) sheet.now again.old }
+    ensures again { again.new ≡ again_after (decode sheet.now) sheet.now again.old }
 {
     let mut place = SheetNetwork::lone();
     let mut order = [0u16; 512];

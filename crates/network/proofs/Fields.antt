@@ -7,7 +7,7 @@ use Rattle.std.proofs.lemmas.List.{get_or-set_same, get_or-set_other, ext_get_or
 use Rattle.std.proofs.lemmas.Bool.{eq-eqb, ne_eqb, cases_eq, cases_lt, cond-true, cond-false, le-leb}
 use Rattle.std.proofs.lemmas.Bool.Decides.{nat_tests}
 use Rattle.std.proofs.lemmas.Nat.{one_shl, pow_below, shr_high, mod_low}
-use Rattle.network.proofs.Bits.{bit_le, bitAt-or, bitAt-and, bitAt-pow, bitAt-not, bitAt-zero, bitAt-suc, digit-bitAt, same-from-bits}
+use Rattle.network.proofs.Bits.{bit_le, bit_at-or, bit_at-and, bit_at-pow, bit_at-not, bit_at-zero, bit_at-suc, digit-bit_at, same-from-bits}
 use Rattle.network.specs.Fields.{bit_of, field, Written}
 
 pub field-zero : (bs : List ℕ) (p : ℕ) → field bs p 0 ≡ 0
@@ -29,10 +29,10 @@ field-small bs p w h = let m : 2 ^ w ≤ 2 ^ 17 = pow_mono h in omega (arith, fi
 
 -- ---- a write of one byte, at each bit
 
-pub bitOf-set : (bs : List ℕ) (i v k : ℕ) → i < 8 * length bs
+pub bit_of-set : (bs : List ℕ) (i v k : ℕ) → i < 8 * length bs
     → bit_of (set bs (i / 8) v) k ≡ cond (eqb (k / 8) (i / 8)) (bit_at v (7 - k % 8)) (bit_of bs k)
 unfolding bit_of
-bitOf-set bs i v k l =
+bit_of-set bs i v k l =
     ⊎_elim
     (λ e. let j : k / 8 ≡ i / 8 = e in
     let here : i / 8 < length bs = omega arith in
@@ -40,24 +40,24 @@ bitOf-set bs i v k l =
     (λ ne. simp (get_or-set_other bs (i / 8) (k / 8) v 0 ne, ne_eqb (k / 8) (i / 8) ne))
     (cases_eq (k / 8) (i / 8))
 
-pub bitOf-on : (bs : List ℕ) (i k : ℕ) → i < 8 * length bs
+pub bit_of-on : (bs : List ℕ) (i k : ℕ) → i < 8 * length bs
     → bit_of (set bs (i / 8) (bit_or (get_or bs (i / 8) 0) ((1 * 2 ^ (7 - i % 8)) % 2 ^ 8))) k ≡ cond (eqb k i) true (bit_of bs k)
 unfolding bit_of
-bitOf-on bs i k l =
+bit_of-on bs i k l =
     let one = one_shl (7 - i % 8) 8 (omega arith) in
-    let e = bitOf-set bs i (bit_or (get_or bs (i / 8) 0) ((1 * 2 ^ (7 - i % 8)) % 2 ^ 8)) k l in
-    e ∙ rw one (rw bitAt-or (rw bitAt-pow (grind (arith, nat_tests))))
+    let e = bit_of-set bs i (bit_or (get_or bs (i / 8) 0) ((1 * 2 ^ (7 - i % 8)) % 2 ^ 8)) k l in
+    e ∙ rw one (rw bit_at-or (rw bit_at-pow (grind (arith, nat_tests))))
 
-pub bitOf-off : (bs : List ℕ) (i k : ℕ) → i < 8 * length bs
+pub bit_of-off : (bs : List ℕ) (i k : ℕ) → i < 8 * length bs
     → bit_of (set bs (i / 8) (bit_and (get_or bs (i / 8) 0) ((2 ^ 8 - 1) - (1 * 2 ^ (7 - i % 8)) % 2 ^ 8))) k ≡ cond (eqb k i) false (bit_of bs k)
 unfolding bit_of
-bitOf-off bs i k l =
+bit_of-off bs i k l =
     let one = one_shl (7 - i % 8) 8 (omega arith) in
     let bound : 2 ^ (7 - i % 8) < 2 ^ 8 = pow_below (7 - i % 8) 8 (omega arith) in
     let turn : bit_at ((2 ^ 8 - 1) - 2 ^ (7 - i % 8)) (7 - k % 8) ≡ not (eqb (7 - k % 8) (7 - i % 8)) =
-    bitAt-not 8 (2 ^ (7 - i % 8)) (7 - k % 8) bound (omega arith) ∙ ap not (bitAt-pow (7 - i % 8) (7 - k % 8)) in
-    let e = bitOf-set bs i (bit_and (get_or bs (i / 8) 0) ((2 ^ 8 - 1) - (1 * 2 ^ (7 - i % 8)) % 2 ^ 8)) k l in
-    e ∙ rw one (rw bitAt-and (rw turn (grind (arith, nat_tests))))
+    bit_at-not 8 (2 ^ (7 - i % 8)) (7 - k % 8) bound (omega arith) ∙ ap not (bit_at-pow (7 - i % 8) (7 - k % 8)) in
+    let e = bit_of-set bs i (bit_and (get_or bs (i / 8) 0) ((2 ^ 8 - 1) - (1 * 2 ^ (7 - i % 8)) % 2 ^ 8)) k l in
+    e ∙ rw one (rw bit_at-and (rw turn (grind (arith, nat_tests))))
 
 -- ---- a field written bit by bit
 
@@ -86,7 +86,7 @@ field-front bs p w v (suc n) hv h f =
     let g : w - suc n ≡ w - 1 - n = omega arith in
     let s : v / 2 ^ (w - 1 - n) / 2 ≡ v / 2 ^ (w - n) = shr-shr v (w - 1 - n) 1 ∙ ap (λ (x : ℕ). v / 2 ^ x) e in
     let d : v / 2 ^ (w - 1 - n) % 2 ≡ cond (bit_of bs (p + n)) 1 0 =
-    digit-bitAt v (w - 1 - n) ∙ ap (λ b. cond b 1 0) (sym (f n (omega arith))) in
+    digit-bit_at v (w - 1 - n) ∙ ap (λ b. cond b 1 0) (sym (f n (omega arith))) in
     rw g (omega arith)
 
 -- a field that was written has the number
@@ -102,9 +102,9 @@ bit-field bs p zero k h = absurd (omega arith)
 bit-field bs p (suc w) k h =
     ⊎_elim
     (λ e. let z : suc w - 1 - k ≡ 0 = omega arith in
-    rw (z, bitAt-zero) (rw e (low (field bs p w) (bit_of bs (p + w)))))
+    rw (z, bit_at-zero) (rw e (low (field bs p w) (bit_of bs (p + w)))))
     (λ ne. let s : suc w - 1 - k ≡ suc (w - 1 - k) = omega arith in
-    rw (s, bitAt-suc) (ap (λ (x : ℕ). bit_at x (w - 1 - k)) (omega (arith, bit_le (bit_of bs (p + w)))) ∙ bit-field bs p w k (omega arith)))
+    rw (s, bit_at-suc) (ap (λ (x : ℕ). bit_at x (w - 1 - k)) (omega (arith, bit_le (bit_of bs (p + w)))) ∙ bit-field bs p w k (omega arith)))
     (cases_eq k w)
   where
     low : (x : ℕ) (b : Bool) → eqb ((x * 2 + cond b 1 0) % 2) 1 ≡ b

@@ -1,58 +1,58 @@
 -- The first fault of a walk, as a loop comes upon it, and what a check answers by it.
 use Rattle.std.proofs.Common.{◌≡◌, ℕ, zero, suc, ◌+◌, ◌-◌, ◌<◌, ◌≤◌, List, length, Some, None, Ok, Err, Option, Result, sym, refl, ap, ◌∙◌, ⊎_elim, arith}
 use Rattle.std.proofs.lemmas.Bool.{cases_lt}
-use Rattle.network.specs.Refusals.{Fault, or_else, firstFault, unless}
-use Rattle.network.specs.Lists.{startsLengthFault, startFault, nameFault, oneSidedFault, rowsFault, listsFault}
+use Rattle.network.specs.Refusals.{Fault, or_else, first_fault, unless}
+use Rattle.network.specs.Lists.{starts_length_fault, start_fault, name_fault, one_sided_fault, rows_fault, lists_fault}
 use Rattle.network.specs.ListLaws.{found_none}
 
-pub none-orElse : (x y : Option Fault) → x ≡ None → y ≡ None → or_else x y ≡ None
-none-orElse (Some f) y p q = p
-none-orElse None y p q = q
+pub none-or_else : (x y : Option Fault) → x ≡ None → y ≡ None → or_else x y ≡ None
+none-or_else (Some f) y p q = p
+none-or_else None y p q = q
 
-pub orElse-some : (x y : Option Fault) (f : Fault) → x ≡ Some f → or_else x y ≡ Some f
-orElse-some (Some g) y f p = p
-orElse-some None y f p = absurd (found_none (sym p))
+pub or_else-some : (x y : Option Fault) (f : Fault) → x ≡ Some f → or_else x y ≡ Some f
+or_else-some (Some g) y f p = p
+or_else-some None y f p = absurd (found_none (sym p))
 
-pub orElse-past : (x y : Option Fault) → x ≡ None → or_else x y ≡ y
-orElse-past (Some f) y p = absurd (found_none p)
-orElse-past None y p = refl
+pub or_else-past : (x y : Option Fault) → x ≡ None → or_else x y ≡ y
+or_else-past (Some f) y p = absurd (found_none p)
+or_else-past None y p = refl
 
 -- a walk without a fault so far goes on
-pub walk_none : (found : ℕ → Option Fault) (k : ℕ) → k ≡ 0 → firstFault found k ≡ None
-unfolding firstFault
+pub walk_none : (found : ℕ → Option Fault) (k : ℕ) → k ≡ 0 → first_fault found k ≡ None
+unfolding first_fault
 walk_none found k e = rw e
 
-pub walk_more : (found : ℕ → Option Fault) (j k : ℕ) → k ≡ suc j → firstFault found j ≡ None → found j ≡ None → firstFault found k ≡ None
-unfolding firstFault
-walk_more found j k e h p = rw e (none-orElse (firstFault found j) (found j) h p)
+pub walk_more : (found : ℕ → Option Fault) (j k : ℕ) → k ≡ suc j → first_fault found j ≡ None → found j ≡ None → first_fault found k ≡ None
+unfolding first_fault
+walk_more found j k e h p = rw e (none-or_else (first_fault found j) (found j) h p)
 
 -- or comes upon its first one
-pub walk-found : (found : ℕ → Option Fault) (k m : ℕ) (f : Fault) → firstFault found k ≡ None → found k ≡ Some f → k < m → firstFault found m ≡ Some f
-unfolding firstFault
+pub walk-found : (found : ℕ → Option Fault) (k m : ℕ) (f : Fault) → first_fault found k ≡ None → found k ≡ Some f → k < m → first_fault found m ≡ Some f
+unfolding first_fault
 walk-found found k zero f h p lt = absurd (omega arith)
 walk-found found k (suc m) f h p lt =
-    ⊎_elim (λ less. orElse-some (firstFault found m) (found m) f (walk-found found k m f h p less))
+    ⊎_elim (λ less. or_else-some (first_fault found m) (found m) f (walk-found found k m f h p less))
     (λ ge. let q : m ≡ k = omega arith in
-    orElse-past (firstFault found m) (found m) (ap (firstFault found) q ∙ h) ∙ ap found q ∙ p)
+    or_else-past (first_fault found m) (found m) (ap (first_fault found) q ∙ h) ∙ ap found q ∙ p)
     (cases_lt k m)
 
-pub walk-all : (found : ℕ → Option Fault) (k : ℕ) → ((j : ℕ) → j < k → found j ≡ None) → firstFault found k ≡ None
-unfolding firstFault
+pub walk-all : (found : ℕ → Option Fault) (k : ℕ) → ((j : ℕ) → j < k → found j ≡ None) → first_fault found k ≡ None
+unfolding first_fault
 walk-all found zero h = refl
-walk-all found (suc k) h = none-orElse (firstFault found k) (found k) (walk-all found k (λ j lt. h j (omega arith))) (h k (omega arith))
+walk-all found (suc k) h = none-or_else (first_fault found k) (found k) (walk-all found k (λ j lt. h j (omega arith))) (h k (omega arith))
 
 -- the same of a walk from low on, by the places themselves
-pub part_none : (found : ℕ → Option Fault) (low : ℕ) → firstFault (λ j. found (low + j)) (low - low) ≡ None
+pub part_none : (found : ℕ → Option Fault) (low : ℕ) → first_fault (λ j. found (low + j)) (low - low) ≡ None
 part_none found low = walk_none (λ j. found (low + j)) (low - low) (omega arith)
 
-pub part-more : (found : ℕ → Option Fault) (low k : ℕ) → low ≤ k → firstFault (λ j. found (low + j)) (k - low) ≡ None → found k ≡ None
-    → firstFault (λ j. found (low + j)) (k + 1 - low) ≡ None
+pub part-more : (found : ℕ → Option Fault) (low k : ℕ) → low ≤ k → first_fault (λ j. found (low + j)) (k - low) ≡ None → found k ≡ None
+    → first_fault (λ j. found (low + j)) (k + 1 - low) ≡ None
 part-more found low k l h p =
     let e : low + (k - low) ≡ k = omega arith in
     walk_more (λ j. found (low + j)) (k - low) _ (omega arith) h (ap found e ∙ p)
 
-pub part-found : (found : ℕ → Option Fault) (low k high : ℕ) (f : Fault) → low ≤ k → k < high → firstFault (λ j. found (low + j)) (k - low) ≡ None → found k ≡ Some f
-    → firstFault (λ j. found (low + j)) (high - low) ≡ Some f
+pub part-found : (found : ℕ → Option Fault) (low k high : ℕ) (f : Fault) → low ≤ k → k < high → first_fault (λ j. found (low + j)) (k - low) ≡ None → found k ≡ Some f
+    → first_fault (λ j. found (low + j)) (high - low) ≡ Some f
 part-found found low k high f l lt h p =
     let e : low + (k - low) ≡ k = omega arith in
     walk-found (λ j. found (low + j)) (k - low) (high - low) f h (ap found e ∙ p) (omega arith)
@@ -78,25 +78,25 @@ was-err None f h = absurd (let z : ◌≡◌ {A = ℕ} 0 1 = cc in omega arith)
 
 -- ---- the checks of two lists, one after the other
 
-pub lists_length : (starts names : List ℕ) (f : Fault) → startsLengthFault starts ≡ Some f → listsFault starts names ≡ Some f
-unfolding listsFault
-lists_length starts names f h = orElse-some _ _ f h
+pub lists_length : (starts names : List ℕ) (f : Fault) → starts_length_fault starts ≡ Some f → lists_fault starts names ≡ Some f
+unfolding lists_fault
+lists_length starts names f h = or_else-some _ _ f h
 
-pub lists-start : (starts names : List ℕ) (f : Fault) → startsLengthFault starts ≡ None
-    → firstFault (startFault starts (length names)) (length starts) ≡ Some f → listsFault starts names ≡ Some f
-unfolding listsFault
-lists-start starts names f long h = orElse-past _ _ long ∙ orElse-some _ _ f h
+pub lists-start : (starts names : List ℕ) (f : Fault) → starts_length_fault starts ≡ None
+    → first_fault (start_fault starts (length names)) (length starts) ≡ Some f → lists_fault starts names ≡ Some f
+unfolding lists_fault
+lists-start starts names f long h = or_else-past _ _ long ∙ or_else-some _ _ f h
 
-pub lists-name : (starts names : List ℕ) (f : Fault) → startsLengthFault starts ≡ None
-    → firstFault (startFault starts (length names)) (length starts) ≡ None
-    → rowsFault starts (nameFault starts names) ≡ Some f
-    → listsFault starts names ≡ Some f
-unfolding listsFault
-lists-name starts names f long h g = orElse-past _ _ long ∙ orElse-past _ _ h ∙ orElse-some _ _ f g
+pub lists-name : (starts names : List ℕ) (f : Fault) → starts_length_fault starts ≡ None
+    → first_fault (start_fault starts (length names)) (length starts) ≡ None
+    → rows_fault starts (name_fault starts names) ≡ Some f
+    → lists_fault starts names ≡ Some f
+unfolding lists_fault
+lists-name starts names f long h g = or_else-past _ _ long ∙ or_else-past _ _ h ∙ or_else-some _ _ f g
 
-pub lists_named : (starts names : List ℕ) → startsLengthFault starts ≡ None
-    → firstFault (startFault starts (length names)) (length starts) ≡ None
-    → rowsFault starts (nameFault starts names) ≡ None
-    → listsFault starts names ≡ rowsFault starts (oneSidedFault starts names)
-unfolding listsFault
-lists_named starts names long h g = orElse-past _ _ long ∙ orElse-past _ _ h ∙ orElse-past _ _ g
+pub lists_named : (starts names : List ℕ) → starts_length_fault starts ≡ None
+    → first_fault (start_fault starts (length names)) (length starts) ≡ None
+    → rows_fault starts (name_fault starts names) ≡ None
+    → lists_fault starts names ≡ rows_fault starts (one_sided_fault starts names)
+unfolding lists_fault
+lists_named starts names long h g = or_else-past _ _ long ∙ or_else-past _ _ h ∙ or_else-past _ _ g

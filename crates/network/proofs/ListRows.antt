@@ -4,8 +4,8 @@ use Rattle.std.specs.List.Sorted.{IsBinarySearchResult}
 use Rattle.std.proofs.lemmas.List.{get_or-take, get_or-drop, length-take-le, length-drop}
 use Rattle.std.proofs.lemmas.List.Sorted.{searched}
 use Rattle.std.proofs.lemmas.Bool.{cases_lt, cases_Bool}
-use Rattle.network.specs.Refusals.{firstFault}
-use Rattle.network.specs.Lists.{listSize, amongNames, startFault, nameFault, rowsFault}
+use Rattle.network.specs.Refusals.{first_fault}
+use Rattle.network.specs.Lists.{list_size, among_names, start_fault, name_fault, rows_fault}
 use Rattle.network.specs.ListLaws.{start_none, starts-onward, starts-last, name-none, name-fits, rises-on, among-at, at-among}
 use Rattle.std.specs.Ordering.{nat_cmp}
 
@@ -18,22 +18,22 @@ climbs starts i (suc d) up =
     rw e (omega (arith, here, climbs starts i d (λ s l h. up s l (omega arith))))
 
 -- a list ends where the next begins, within the names
-pub list-within : (starts names : List ℕ) → firstFault (startFault starts (length names)) (length starts) ≡ None
-    → (s : ℕ) → s < listSize starts → (get_or starts s 0 ≤ get_or starts (s + 1) 0) × (get_or starts (s + 1) 0 ≤ length names)
+pub list-within : (starts names : List ℕ) → first_fault (start_fault starts (length names)) (length starts) ≡ None
+    → (s : ℕ) → s < list_size starts → (get_or starts s 0 ≤ get_or starts (s + 1) 0) × (get_or starts (s + 1) 0 ≤ length names)
 list-within starts names none s h =
     let fits = start_none starts names none in
-    let up : (i : ℕ) → i < listSize starts → get_or starts i 0 ≤ get_or starts (i + 1) 0 = λ i l. starts-onward starts (length names) i (fits (i + 1) (omega arith)) in
-    let d : ℕ = listSize starts - (s + 1) in
-    let e : s + 1 + d ≡ listSize starts = omega arith in
-    let end : get_or starts (s + 1 + d) 0 ≡ length names = rw e (starts-last starts (length names) (listSize starts) (omega arith) (fits (listSize starts) (omega arith))) in
+    let up : (i : ℕ) → i < list_size starts → get_or starts i 0 ≤ get_or starts (i + 1) 0 = λ i l. starts-onward starts (length names) i (fits (i + 1) (omega arith)) in
+    let d : ℕ = list_size starts - (s + 1) in
+    let e : s + 1 + d ≡ list_size starts = omega arith in
+    let end : get_or starts (s + 1 + d) 0 ≡ length names = rw e (starts-last starts (length names) (list_size starts) (omega arith) (fits (list_size starts) (omega arith))) in
     (up s h, omega (arith, end, climbs starts (s + 1) d (λ i l lt. up i (omega arith))))
 
-pub list-rises : (starts names : List ℕ) → rowsFault starts (nameFault starts names) ≡ None
-    → (s j k : ℕ) → s < listSize starts → get_or starts s 0 ≤ j → j < k → k < get_or starts (s + 1) 0 → get_or names j 0 < get_or names k 0
+pub list-rises : (starts names : List ℕ) → rows_fault starts (name_fault starts names) ≡ None
+    → (s j k : ℕ) → s < list_size starts → get_or starts s 0 ≤ j → j < k → k < get_or starts (s + 1) 0 → get_or names j 0 < get_or names k 0
 list-rises starts names none s j k h l lt hk =
     rises-on names (get_or starts s 0) (get_or starts (s + 1) 0)
     (λ m past before.
-    (name-fits names (listSize starts) (get_or starts s 0) s m (name-none starts names (listSize starts) none s m h (omega arith) before)).2 past)
+    (name-fits names (list_size starts) (get_or starts s 0) s m (name-none starts names (list_size starts) none s m h (omega arith) before)).2 past)
     j
     k
     l
@@ -53,7 +53,7 @@ part_at names low high i h = get_or-take (high - low) (drop low names) i 0 h ∙
 -- what a search in a part of the names answers
 pub part-searched : (names : List ℕ) (low high b : ℕ) (r : Result ℕ ℕ) → low ≤ high → high ≤ length names
     → ((j k : ℕ) → low ≤ j → j < k → k < high → get_or names j 0 < get_or names k 0)
-    → IsBinarySearchResult (λ y. nat_cmp y b) (take (high - low) (drop low names)) r → is_ok r ≡ amongNames names low (high - low) b
+    → IsBinarySearchResult (λ y. nat_cmp y b) (take (high - low) (drop low names)) r → is_ok r ≡ among_names names low (high - low) b
 part-searched names low high b r order within up found = step r (searched (part names low high) b r found not-falling)
   where
     long : length (part names low high) ≡ high - low
@@ -73,7 +73,7 @@ part-searched names low high b r order within up found = step r (searched (part 
 
     step : (s : Result ℕ ℕ)
         → MatchResult s (λ i. (i < length (part names low high)) × (get_or (part names low high) i 0 ≡ b)) (λ i. (i ≤ length (part names low high)) × ((k : ℕ) → k < i → get_or (part names low high) k 0 < b) × ((k : ℕ) → i ≤ k → k < length (part names low high) → b < get_or (part names low high) k 0))
-        → is_ok s ≡ amongNames names low (high - low) b
+        → is_ok s ≡ among_names names low (high - low) b
     step (Ok i) p =
         let hi : i < high - low = omega (arith, p.0, long) in
         sym (at-among names low (high - low) b (low + i) (omega arith) (omega arith) (sym (at i hi) ∙ p.1))
@@ -86,4 +86,4 @@ part-searched names low high b r order within up found = step r (searched (part 
         let is : get_or (part names low high) k 0 ≡ b = at k hk ∙ ap (λ (x : ℕ). get_or names x 0) e ∙ q.3 in
         absurd (⊎_elim (λ lt. omega (arith, is, p.1 k lt)) (λ ge. omega (arith, is, p.2 k ge (omega (arith, long)))) (cases_lt k i)))
         (λ nay. sym nay)
-        (cases_Bool (amongNames names low (high - low) b))
+        (cases_Bool (among_names names low (high - low) b))

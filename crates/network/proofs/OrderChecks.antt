@@ -4,23 +4,23 @@ use Rattle.std.proofs.lemmas.Bool.{cases_eq, eqb-true, leb-true, ltb-true, eq-eq
 use Rattle.std.proofs.lemmas.Bool.Decides.{nat_tests}
 use Rattle.network.proofs.Faults.{cond-none, no-fault, each_none}
 use Rattle.network.proofs.Marks.{unnamed, named-nowhere}
-use Rattle.network.specs.Orders.{among, stationFault, orderFault}
-use Rattle.network.specs.Refusals.{firstFault}
-use Rattle.network.specs.SheetLaws.{OrderOf, Order-is, Order-names-all}
+use Rattle.network.specs.Orders.{among, station_fault, order_fault}
+use Rattle.network.specs.Refusals.{first_fault}
+use Rattle.network.specs.SheetLaws.{OrderOf, OrderIs, OrderNamesAll}
 
-station-says : (xs : List ℕ) (n k : ℕ) → stationFault xs n k ≡ None → (get_or xs k 0 < n) × (among xs k (get_or xs k 0) ≡ false)
-unfolding stationFault
+station-says : (xs : List ℕ) (n k : ℕ) → station_fault xs n k ≡ None → (get_or xs k 0 < n) × (among xs k (get_or xs k 0) ≡ false)
+unfolding station_fault
 station-says xs n k h =
     let fine = cond-none (ltb (get_or xs k 0) n && not (among xs k (get_or xs k 0))) None 14 k h in
     let both = and_parts (ltb (get_or xs k 0) n) (not (among xs k (get_or xs k 0))) fine.0 in
     (ltb-true _ _ both.0, not-true _ both.1)
 
-pub faultless-order : (xs : List ℕ) (n : ℕ) → orderFault xs n ≡ None → OrderOf xs n
+pub faultless-order : (xs : List ℕ) (n : ℕ) → order_fault xs n ≡ None → OrderOf xs n
 faultless-order xs n h =
-    let fine = cond-none (eqb (length xs) n && leb n 512) (firstFault (stationFault xs n) n) 13 (length xs) h in
+    let fine = cond-none (eqb (length xs) n && leb n 512) (first_fault (station_fault xs n) n) 13 (length xs) h in
     let both = and_parts (eqb (length xs) n) (leb n 512) fine.0 in
     let says : (k : ℕ) → k < n → (get_or xs k 0 < n) × (among xs k (get_or xs k 0) ≡ false) =
-    λ k lt. station-says xs n k (each_none (stationFault xs n) n fine.1 k lt) in
+    λ k lt. station-says xs n k (each_none (station_fault xs n) n fine.1 k lt) in
     record {
       whole = eqb-true _ _ both.0;
       few = leb-true _ _ both.1;
@@ -28,19 +28,19 @@ faultless-order xs n h =
       once = λ j k lt hk e. named-nowhere (λ i. get_or xs i 0) k (get_or xs k 0) (says k hk).1 j lt e;
     }
 
-station-fine : (xs : List ℕ) (n : ℕ) → OrderOf xs n → (k : ℕ) → k < n → stationFault xs n k ≡ None
-unfolding stationFault
+station-fine : (xs : List ℕ) (n : ℕ) → OrderOf xs n → (k : ℕ) → k < n → station_fault xs n k ≡ None
+unfolding station_fault
 station-fine xs n order k lt =
     cond-true _ _ _
     (and_from _ _ (lt-ltb _ _ (order.known k lt))
     (not_from_false _ (unnamed (λ i. get_or xs i 0) k (get_or xs k 0) (λ j less e. order.once j k less lt e))))
 
-pub order-faultless : (xs : List ℕ) (n : ℕ) → OrderOf xs n → orderFault xs n ≡ None
+pub order-faultless : (xs : List ℕ) (n : ℕ) → OrderOf xs n → order_fault xs n ≡ None
 order-faultless xs n order =
     cond-true _ _ _ (and_from _ _ (eq-eqb _ _ order.whole) (le-leb _ _ order.few))
-    ∙ no-fault (stationFault xs n) n (station-fine xs n order)
+    ∙ no-fault (station_fault xs n) n (station-fine xs n order)
 
-pub order_is : Order-is
+pub order_is : OrderIs
 order_is xs n = (faultless-order xs n, order-faultless xs n)
 
 -- ---- no station is left out
@@ -85,5 +85,5 @@ all_named f (suc n) below apart v h = go (cases_eq (f n) v) (cases_eq v n) (all_
         let e : moved f n k ≡ v = found.2 in
         (k, omega (arith, found.1), grind (arith, nat_tests))
 
-pub order-names-all : Order-names-all
+pub order-names-all : OrderNamesAll
 order-names-all xs n order = all_named (λ k. get_or xs k 0) n order.known order.once

@@ -10,25 +10,25 @@ use Rattle.network.proofs.Trips.{written-reads, read-writes}
 use Rattle.network.proofs.Wells.{read-well}
 use Rattle.network.specs.Decode.{decode}
 use Rattle.network.specs.Net.{Net, Lawful}
-use Rattle.network.specs.Orders.{orderFault}
+use Rattle.network.specs.Orders.{order_fault}
 use Rattle.network.specs.Refusals.{Fault}
-use Rattle.network.specs.SheetLaws.{Network-sheet-well, Network-returns, Bytes-tell-apart, Read-lawful, Read-ordered, Read-same-sheet, Read-same-bytes}
-use Rattle.network.specs.Sheets.{Sheet, Well, hasPair, pairsTo, sheetNet, sheetFrom, encode}
+use Rattle.network.specs.SheetLaws.{NetworkSheetWell, NetworkReturns, BytesTellApart, ReadLawful, ReadOrdered, ReadSameSheet, ReadSameBytes}
+use Rattle.network.specs.Sheets.{Sheet, Well, has_pair, pairs_to, sheet_net, sheet_from, encode}
 
 -- ---- from a network
 
-pub network-sheet-well : Network-sheet-well
+pub network-sheet-well : NetworkSheetWell
 network-sheet-well net order lawful fine =
     let C = net.coupled in
     let n = net.size in
     let is = faultless-order order n fine in
-    let ps = pairsTo C n in
+    let ps = pairs_to C n in
     let says : (k : ℕ) → k < length ps → ((get_or ps k (0, 0)).0 < n) × ((get_or ps k (0, 0)).1 < (get_or ps k (0, 0)).0) =
     λ k lt. has-says C n _ _ (has-pair-at ps k lt) in
     record {
       some = lawful.some;
       few = lawful.few;
-      fewPairs = pairs-short C n;
+      few_pairs = pairs-short C n;
       inside = λ k lt. (says k lt).0;
       falling = λ k lt. (says k lt).1;
       rising = rises_next ps (rises-pairs C n);
@@ -37,10 +37,10 @@ network-sheet-well net order lawful fine =
       once = is.once;
     }
   where
-    has-says : (C : ℕ → ℕ → Bool) (n a b : ℕ) → hasPair (pairsTo C n) a b ≡ true → (a < n) × (b < a)
+    has-says : (C : ℕ → ℕ → Bool) (n a b : ℕ) → has_pair (pairs_to C n) a b ≡ true → (a < n) × (b < a)
     has-says C n a b h = let e = has-pairs C n a b in (grind (arith, nat_tests), grind (arith, nat_tests))
 
-same-coupled : (net : Net) → Lawful net → (order : List ℕ) (a b : ℕ) → (sheetNet (sheetFrom net order)).coupled a b ≡ net.coupled a b
+same-coupled : (net : Net) → Lawful net → (order : List ℕ) (a b : ℕ) → (sheet_net (sheet_from net order)).coupled a b ≡ net.coupled a b
 same-coupled net lawful order a b =
     let C = net.coupled in
     let e = has-pairs C net.size (max a b) (min a b) in
@@ -55,28 +55,28 @@ same-coupled net lawful order a b =
     (λ more. let top : max a b ≡ a = omega arith in let low : min a b ≡ b = omega arith in grind (arith, nat_tests)))
     (cases_order a b)
 
-pub same-net : (net : Net) → Lawful net → (order : List ℕ) → sheetNet (sheetFrom net order) ≡ net
+pub same-net : (net : Net) → Lawful net → (order : List ℕ) → sheet_net (sheet_from net order) ≡ net
 same-net net lawful order =
     let make : (ℕ → ℕ → Bool) → Net = λ C. record { size = net.size; coupled = C } in
     ap make (fun_ext (λ a. fun_ext (λ b. same-coupled net lawful order a b)))
 
-pub network-returns : Network-returns
+pub network-returns : NetworkReturns
 network-returns net order lawful fine =
-    (written-reads (sheetFrom net order) (network-sheet-well net order lawful fine), same-net net lawful order)
+    (written-reads (sheet_from net order) (network-sheet-well net order lawful fine), same-net net lawful order)
 
 ok_same : (s t : Sheet) → ◌≡◌ {A = Result Sheet Fault} (Ok s) (Ok t) → s ≡ t
 ok_same s t h = cc
 
-pub bytes-tell-apart : Bytes-tell-apart
+pub bytes-tell-apart : BytesTellApart
 bytes-tell-apart net net' order order' lawful fine lawful' fine' same =
     let one = network-returns net order lawful fine in
     let two = network-returns net' order' lawful' fine' in
-    let sheets : sheetFrom net order ≡ sheetFrom net' order' = ok_same _ _ (sym one.0 ∙ ap decode same ∙ two.0) in
-    (sym one.1 ∙ ap sheetNet sheets ∙ two.1, ap (λ (s : Sheet). s.order) sheets)
+    let sheets : sheet_from net order ≡ sheet_from net' order' = ok_same _ _ (sym one.0 ∙ ap decode same ∙ two.0) in
+    (sym one.1 ∙ ap sheet_net sheets ∙ two.1, ap (λ (s : Sheet). s.order) sheets)
 
 -- ---- from a sheet
 
-well-lawful : (s : Sheet) → Well s → Lawful (sheetNet s)
+well-lawful : (s : Sheet) → Well s → Lawful (sheet_net s)
 well-lawful s well = record {
   some = well.some;
   few = well.few;
@@ -85,33 +85,33 @@ well-lawful s well = record {
   within = λ a b h. grind (arith, nat_tests);
 }
 
-well-ordered : (s : Sheet) → Well s → orderFault s.order s.size ≡ None
+well-ordered : (s : Sheet) → Well s → order_fault s.order s.size ≡ None
 well-ordered s well = order-faultless s.order s.size (record { whole = well.whole; few = well.few; known = well.known; once = well.once })
 
-same-has : (s : Sheet) → Well s → (a b : ℕ) → hasPair (pairsTo (sheetNet s).coupled s.size) a b ≡ hasPair s.couplings a b
+same-has : (s : Sheet) → Well s → (a b : ℕ) → has_pair (pairs_to (sheet_net s).coupled s.size) a b ≡ has_pair s.couplings a b
 same-has s well a b =
-    let e = has-pairs (sheetNet s).coupled s.size a b in
+    let e = has-pairs (sheet_net s).coupled s.size a b in
     let ps = s.couplings in
-    let inside : hasPair ps a b ≡ true → a < s.size = has-each (λ x y. x < s.size) ps well.inside a b in
-    let falling : hasPair ps a b ≡ true → b < a = has-each (λ x y. y < x) ps well.falling a b in
+    let inside : has_pair ps a b ≡ true → a < s.size = has-each (λ x y. x < s.size) ps well.inside a b in
+    let falling : has_pair ps a b ≡ true → b < a = has-each (λ x y. y < x) ps well.falling a b in
     ⊎_elim
     (λ falls. let top : max a b ≡ a = omega arith in let low : min a b ≡ b = omega arith in grind (arith, nat_tests))
     (λ rises. grind (arith, nat_tests))
     (cases_lt b a)
 
-pub same-sheet : (s : Sheet) → Well s → sheetFrom (sheetNet s) s.order ≡ s
+pub same-sheet : (s : Sheet) → Well s → sheet_from (sheet_net s) s.order ≡ s
 same-sheet s well =
     let make : List (ℕ × ℕ) → Sheet = λ ps. record { size = s.size; couplings = ps; order = s.order } in
-    ap make (same-pairs _ _ (rises-pairs (sheetNet s).coupled s.size) (next-rises s.couplings well.rising) (same-has s well))
+    ap make (same-pairs _ _ (rises-pairs (sheet_net s).coupled s.size) (next-rises s.couplings well.rising) (same-has s well))
 
-pub read-lawful : Read-lawful
+pub read-lawful : ReadLawful
 read-lawful bs s read = well-lawful s (read-well bs s read)
 
-pub read-ordered : Read-ordered
+pub read-ordered : ReadOrdered
 read-ordered bs s read = well-ordered s (read-well bs s read)
 
-pub read-same-sheet : Read-same-sheet
+pub read-same-sheet : ReadSameSheet
 read-same-sheet bs s read = same-sheet s (read-well bs s read)
 
-pub read-same-bytes : Read-same-bytes
+pub read-same-bytes : ReadSameBytes
 read-same-bytes bs s bytes read = ap encode (read-same-sheet bs s read) ∙ read-writes bs s bytes read

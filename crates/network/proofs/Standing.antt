@@ -4,29 +4,29 @@ use Rattle.std.specs.List.{range_with_len}
 use Rattle.std.proofs.lemmas.List.{get_or_append_left, get_or-append_right, get_or-append-add, get_or_past, length-append}
 use Rattle.std.proofs.lemmas.List.FromFn.{length-map-range_with_len, get_or-map-range_with_len}
 use Rattle.std.proofs.lemmas.Bool.{cases_lt, cases_eq, eq-eqb, ne_eqb}
-use Rattle.network.proofs.Bits.{bitAt-zero, bitAt-suc, bitAt-none, bit_le}
+use Rattle.network.proofs.Bits.{bit_at-zero, bit_at-suc, bit_at-none, bit_le}
 use Rattle.network.proofs.Fields.{bit-field, field-written, same_bytes}
 use Rattle.network.specs.Bits.{bit_at}
 use Rattle.network.specs.Fields.{bit_of, field, Written}
 use Rattle.network.specs.Laws.{Bytes}
 use Rattle.network.specs.Sheets.{bits_of, spread, value_of, pack}
 
-pub length-bitsOf : (w v : ℕ) → length (bits_of w v) ≡ w
+pub length-bits_of : (w v : ℕ) → length (bits_of w v) ≡ w
 unfolding bits_of
-length-bitsOf zero v = refl
-length-bitsOf (suc w) v = ap suc (length-bitsOf w v)
+length-bits_of zero v = refl
+length-bits_of (suc w) v = ap suc (length-bits_of w v)
 
-pub getD-bitsOf : (w v k : ℕ) → k < w → get_or (bits_of w v) k false ≡ bit_at v (w - 1 - k)
+pub get_or-bits_of : (w v k : ℕ) → k < w → get_or (bits_of w v) k false ≡ bit_at v (w - 1 - k)
 unfolding bits_of
-getD-bitsOf zero v k h = absurd (omega arith)
-getD-bitsOf (suc w) v zero h = ap (bit_at v) (omega arith)
-getD-bitsOf (suc w) v (suc k) h = getD-bitsOf w v k (omega arith) ∙ ap (bit_at v) (omega arith)
+get_or-bits_of zero v k h = absurd (omega arith)
+get_or-bits_of (suc w) v zero h = ap (bit_at v) (omega arith)
+get_or-bits_of (suc w) v (suc k) h = get_or-bits_of w v k (omega arith) ∙ ap (bit_at v) (omega arith)
 
 pub length-spread : (w : ℕ) (vs : List ℕ) → length (spread w vs) ≡ w * length vs
 unfolding spread
 length-spread w [] = omega arith
 length-spread w (v ∷ vs) =
-    length-append (bits_of w v) (spread w vs) ∙ omega (arith, length-bitsOf w v, length-spread w vs, mul-suc w (length vs))
+    length-append (bits_of w v) (spread w vs) ∙ omega (arith, length-bits_of w v, length-spread w vs, mul-suc w (length vs))
 
 -- the bits stand in the bytes from the place p on
 abbrev pub Reads : List ℕ → ℕ → List Bool → Type 0
@@ -47,13 +47,13 @@ reads-right bs p x y f i h =
 
 pub reads-field : (bs : List ℕ) (p w v : ℕ) → field bs p w ≡ v → Reads bs p (bits_of w v)
 reads-field bs p w v e i h =
-    let hi : i < w = omega (arith, length-bitsOf w v) in
-    getD-bitsOf w v i hi ∙ ap (λ (x : ℕ). bit_at x (w - 1 - i)) (sym e) ∙ bit-field bs p w i hi
+    let hi : i < w = omega (arith, length-bits_of w v) in
+    get_or-bits_of w v i hi ∙ ap (λ (x : ℕ). bit_at x (w - 1 - i)) (sym e) ∙ bit-field bs p w i hi
 
 pub field-reads : (bs : List ℕ) (p w v : ℕ) → v < 2 ^ w → Reads bs p (bits_of w v) → field bs p w ≡ v
 field-reads bs p w v hv f =
     let so : Written bs bs p w v w = record {
-      inside = λ k h. sym (f k (omega (arith, length-bitsOf w v))) ∙ getD-bitsOf w v k h;
+      inside = λ k h. sym (f k (omega (arith, length-bits_of w v))) ∙ get_or-bits_of w v k h;
       before = λ i h. refl;
       after = λ i h. refl;
     } in
@@ -66,7 +66,7 @@ reads-spread bs p w (v ∷ vs) f =
     let first : field bs p w ≡ v = ap (λ (x : ℕ). field bs x w) (omega arith) ∙ f 0 (omega arith) in
     let rest : Reads bs (p + length (bits_of w v)) (spread w vs) =
     reads-spread bs (p + length (bits_of w v)) w vs
-    (λ i h. ap (λ (x : ℕ). field bs x w) (omega (arith, mul-suc w i, length-bitsOf w v)) ∙ f (suc i) (omega arith)) in
+    (λ i h. ap (λ (x : ℕ). field bs x w) (omega (arith, mul-suc w i, length-bits_of w v)) ∙ f (suc i) (omega arith)) in
     reads-append bs p (bits_of w v) (spread w vs) (reads-field bs p w v first) rest
 
 pub spread-reads : (bs : List ℕ) (p w : ℕ) (vs : List ℕ) → Reads bs p (spread w vs) → ((i : ℕ) → i < length vs → get_or vs i 0 < 2 ^ w)
@@ -76,7 +76,7 @@ spread-reads bs p w [] f small i h = absurd (omega arith)
 spread-reads bs p w (v ∷ vs) f small zero h =
     ap (λ (x : ℕ). field bs x w) (omega arith) ∙ field-reads bs p w v (small 0 (omega arith)) (reads-left bs p (bits_of w v) (spread w vs) f)
 spread-reads bs p w (v ∷ vs) f small (suc i) h =
-    ap (λ (x : ℕ). field bs x w) (omega (arith, mul-suc w i, length-bitsOf w v))
+    ap (λ (x : ℕ). field bs x w) (omega (arith, mul-suc w i, length-bits_of w v))
     ∙ spread-reads bs (p + length (bits_of w v)) w vs (reads-right bs p (bits_of w v) (spread w vs) f) (λ j hj. small (suc j) (omega arith)) i (omega arith)
 
 -- ---- bits in bytes
@@ -92,9 +92,9 @@ bit-value f p zero k h = absurd (omega arith)
 bit-value f p (suc w) k h =
     ⊎_elim
     (λ e. let z : suc w - 1 - k ≡ 0 = omega arith in
-    rw (z, bitAt-zero) (rw e (low (value_of f p w) (f (p + w)))))
+    rw (z, bit_at-zero) (rw e (low (value_of f p w) (f (p + w)))))
     (λ ne. let s : suc w - 1 - k ≡ suc (w - 1 - k) = omega arith in
-    rw (s, bitAt-suc) (ap (λ (x : ℕ). bit_at x (w - 1 - k)) (omega (arith, bit_le (f (p + w)))) ∙ bit-value f p w k (omega arith)))
+    rw (s, bit_at-suc) (ap (λ (x : ℕ). bit_at x (w - 1 - k)) (omega (arith, bit_le (f (p + w)))) ∙ bit-value f p w k (omega arith)))
     (cases_eq k w)
   where
     low : (x : ℕ) (b : Bool) → eqb ((x * 2 + cond b 1 0) % 2) 1 ≡ b
@@ -112,15 +112,15 @@ at-pack bits j h = get_or-map-range_with_len (λ x. value_of (λ i. get_or bits 
 pub bytes-pack : (bits : List Bool) → Bytes (pack bits)
 bytes-pack bits j h = omega (arith, at-pack bits j (omega (arith, length-pack bits)), value-lt (λ i. get_or bits i false) (8 * j) 8)
 
-pub bitOf-pack : (bits : List Bool) (i : ℕ) → bit_of (pack bits) i ≡ get_or bits i false
+pub bit_of-pack : (bits : List Bool) (i : ℕ) → bit_of (pack bits) i ≡ get_or bits i false
 unfolding bit_of
-bitOf-pack bits i =
+bit_of-pack bits i =
     ⊎_elim
     (λ lt. ap (λ (x : ℕ). bit_at x (7 - i % 8)) (at-pack bits (i / 8) lt)
     ∙ bit-value (λ k. get_or bits k false) (8 * (i / 8)) 8 (i % 8) (omega arith)
     ∙ ap (λ (x : ℕ). get_or bits x false) (omega arith))
     (λ ge. ap (λ (x : ℕ). bit_at x (7 - i % 8)) (get_or_past (pack bits) (i / 8) 0 (omega (arith, length-pack bits)))
-    ∙ bitAt-none (7 - i % 8) ∙ sym (get_or_past bits i false (omega arith)))
+    ∙ bit_at-none (7 - i % 8) ∙ sym (get_or_past bits i false (omega arith)))
     (cases_lt (i / 8) ((length bits + 7) / 8))
 
 -- the bytes are these bits, with zero bits in the last byte
@@ -131,15 +131,15 @@ pub record Holds (bs : List ℕ) (bits : List Bool) : Type 0 where
 
 pub pack-holds : (bits : List Bool) → Holds (pack bits) bits
 pack-holds bits = record {
-  reads = λ i h. sym (ap (bit_of (pack bits)) (omega arith) ∙ bitOf-pack bits i);
+  reads = λ i h. sym (ap (bit_of (pack bits)) (omega arith) ∙ bit_of-pack bits i);
   long = length-pack bits;
-  fill = λ i h. bitOf-pack bits i ∙ get_or_past bits i false h;
+  fill = λ i h. bit_of-pack bits i ∙ get_or_past bits i false h;
 }
 
 pub holds-pack : (bs : List ℕ) (bits : List Bool) → Bytes bs → Holds bs bits → pack bits ≡ bs
 holds-pack bs bits b h =
     same_bytes (pack bits) bs (length-pack bits ∙ sym h.long) (bytes-pack bits) b
-    (λ i. bitOf-pack bits i ∙ ⊎_elim
+    (λ i. bit_of-pack bits i ∙ ⊎_elim
     (λ lt. h.reads i lt ∙ ap (bit_of bs) (omega arith))
     (λ ge. get_or_past bits i false ge ∙ sym (h.fill i ge))
     (cases_lt i (length bits)))

@@ -2,65 +2,65 @@
 use Rattle.std.proofs.Common.{◌≡◌, ℕ, ◌+◌, ◌*◌, ◌<◌, ◌≤◌, Bool, true, false, cond, List, length, Ok, Err, Result, sym, refl, ap, ◌∙◌, subst, arith}
 use Rattle.std.proofs.lemmas.Bool.{cond-true, cond-false}
 use Rattle.network.proofs.Places.{place-next}
-use Rattle.network.specs.Decode.{placeOf, value_at}
-use Rattle.network.specs.Fields.{field, isIn, fieldIn, placeAfter}
+use Rattle.network.specs.Decode.{place_for, value_at}
+use Rattle.network.specs.Fields.{field, is_in, field_in, place_after}
 use Rattle.network.specs.Refusals.{Fault, at}
 
-pub took : (bs : List ℕ) (p w v : ℕ) → Ok v ≡ fieldIn bs p w → (isIn bs p w ≡ true) × (v ≡ field bs p w)
-took bs p w v = way (isIn bs p w)
+pub took : (bs : List ℕ) (p w v : ℕ) → Ok v ≡ field_in bs p w → (is_in bs p w ≡ true) × (v ≡ field bs p w)
+took bs p w v = way (is_in bs p w)
   where
     way : (b : Bool) → Ok v ≡ cond b (Ok (field bs p w)) (Err (at 1 p)) → (b ≡ true) × (v ≡ field bs p w)
     way true h = (refl, cc)
     way false h = absurd (let z : ◌≡◌ {A = ℕ} 0 1 = cc in omega arith)
 
-pub cut : (bs : List ℕ) (p w : ℕ) (f : Fault) → Err f ≡ fieldIn bs p w → (isIn bs p w ≡ false) × (f ≡ at 1 p)
-cut bs p w f = way (isIn bs p w)
+pub cut : (bs : List ℕ) (p w : ℕ) (f : Fault) → Err f ≡ field_in bs p w → (is_in bs p w ≡ false) × (f ≡ at 1 p)
+cut bs p w f = way (is_in bs p w)
   where
     way : (b : Bool) → Err f ≡ cond b (Ok (field bs p w)) (Err (at 1 p)) → (b ≡ false) × (f ≡ at 1 p)
     way true h = absurd (let z : ◌≡◌ {A = ℕ} 0 1 = cc in omega arith)
     way false h = (refl, cc)
 
 -- where the next field stands, after one was taken
-pub then_at : (bs : List ℕ) (p w i q : ℕ) → p ≡ placeOf w i → isIn bs p w ≡ true → q ≡ placeAfter bs p w → q ≡ placeOf w (i + 1)
+pub then_at : (bs : List ℕ) (p w i q : ℕ) → p ≡ place_for w i → is_in bs p w ≡ true → q ≡ place_after bs p w → q ≡ place_for w (i + 1)
 then_at bs p w i q e h is = is ∙ cond-true _ _ _ h ∙ ap (λ (x : ℕ). x + w) e ∙ sym (place-next w i)
 
 -- a station that was taken
-pub station-took : (bs cs : List ℕ) (p w i v : ℕ) → cs ≡ bs → p ≡ placeOf w i → Ok v ≡ fieldIn cs p w → (isIn bs (placeOf w i) w ≡ true) × (v ≡ value_at bs w i)
+pub station-took : (bs cs : List ℕ) (p w i v : ℕ) → cs ≡ bs → p ≡ place_for w i → Ok v ≡ field_in cs p w → (is_in bs (place_for w i) w ≡ true) × (v ≡ value_at bs w i)
 unfolding value_at
 station-took bs cs p w i v same e h =
     let got = took cs p w v h in (
-      ap (λ l. isIn l (placeOf w i) w) (sym same) ∙ ap (λ (x : ℕ). isIn cs x w) (sym e) ∙ got.0,
-      got.1 ∙ ap (λ (x : ℕ). field cs x w) e ∙ ap (λ l. field l (placeOf w i) w) same,
+      ap (λ l. is_in l (place_for w i) w) (sym same) ∙ ap (λ (x : ℕ). is_in cs x w) (sym e) ∙ got.0,
+      got.1 ∙ ap (λ (x : ℕ). field cs x w) e ∙ ap (λ l. field l (place_for w i) w) same,
     )
 
-pub station-cut : (bs cs : List ℕ) (p w i : ℕ) (f : Fault) → cs ≡ bs → p ≡ placeOf w i → Err f ≡ fieldIn cs p w → (isIn bs (placeOf w i) w ≡ false) × (f ≡ at 1 (placeOf w i))
+pub station-cut : (bs cs : List ℕ) (p w i : ℕ) (f : Fault) → cs ≡ bs → p ≡ place_for w i → Err f ≡ field_in cs p w → (is_in bs (place_for w i) w ≡ false) × (f ≡ at 1 (place_for w i))
 station-cut bs cs p w i f same e h =
     let got = cut cs p w f h in (
-      ap (λ l. isIn l (placeOf w i) w) (sym same) ∙ ap (λ (x : ℕ). isIn cs x w) (sym e) ∙ got.0,
+      ap (λ l. is_in l (place_for w i) w) (sym same) ∙ ap (λ (x : ℕ). is_in cs x w) (sym e) ∙ got.0,
       got.1 ∙ ap (at 1) e,
     )
 
 -- ---- the coupling k: its first field is taken at p, its second looked for at q
 
-second_at : (bs : List ℕ) (p q w k larger : ℕ) → p ≡ placeOf w (2 * k) → Ok larger ≡ fieldIn bs p w → q ≡ placeAfter bs p w → q ≡ placeOf w (2 * k + 1)
+second_at : (bs : List ℕ) (p q w k larger : ℕ) → p ≡ place_for w (2 * k) → Ok larger ≡ field_in bs p w → q ≡ place_after bs p w → q ≡ place_for w (2 * k + 1)
 second_at bs p q w k larger e first is = then_at bs p w (2 * k) q e (took bs p w larger first).0 is
 
-pub pair-cut : (bs cs : List ℕ) (p q w k larger : ℕ) (f : Fault) → p ≡ placeOf w (2 * k) → Ok larger ≡ fieldIn bs p w → q ≡ placeAfter bs p w → cs ≡ bs → Err f ≡ fieldIn cs q w
-    → (isIn bs (placeOf w (2 * k)) w ≡ true) × (isIn bs (placeOf w (2 * k + 1)) w ≡ false) × (f ≡ at 1 (placeOf w (2 * k + 1)))
+pub pair-cut : (bs cs : List ℕ) (p q w k larger : ℕ) (f : Fault) → p ≡ place_for w (2 * k) → Ok larger ≡ field_in bs p w → q ≡ place_after bs p w → cs ≡ bs → Err f ≡ field_in cs q w
+    → (is_in bs (place_for w (2 * k)) w ≡ true) × (is_in bs (place_for w (2 * k + 1)) w ≡ false) × (f ≡ at 1 (place_for w (2 * k + 1)))
 pair-cut bs cs p q w k larger f e first is same second =
     let x = station-took bs bs p w (2 * k) larger refl e first in
     let y = station-cut bs cs q w (2 * k + 1) f same (second_at bs p q w k larger e first is) second in
     (x.0, y.0, y.1)
 
-pub pair-took : (bs cs : List ℕ) (p q w k larger smaller : ℕ) → p ≡ placeOf w (2 * k) → Ok larger ≡ fieldIn bs p w → q ≡ placeAfter bs p w → cs ≡ bs → Ok smaller ≡ fieldIn cs q w
-    → (isIn bs (placeOf w (2 * k)) w ≡ true) × (isIn bs (placeOf w (2 * k + 1)) w ≡ true) × (larger ≡ value_at bs w (2 * k)) × (smaller ≡ value_at bs w (2 * k + 1))
+pub pair-took : (bs cs : List ℕ) (p q w k larger smaller : ℕ) → p ≡ place_for w (2 * k) → Ok larger ≡ field_in bs p w → q ≡ place_after bs p w → cs ≡ bs → Ok smaller ≡ field_in cs q w
+    → (is_in bs (place_for w (2 * k)) w ≡ true) × (is_in bs (place_for w (2 * k + 1)) w ≡ true) × (larger ≡ value_at bs w (2 * k)) × (smaller ≡ value_at bs w (2 * k + 1))
 pair-took bs cs p q w k larger smaller e first is same second =
     let x = station-took bs bs p w (2 * k) larger refl e first in
     let y = station-took bs cs q w (2 * k + 1) smaller same (second_at bs p q w k larger e first is) second in
     (x.0, y.0, x.1, y.1)
 
 -- where the reader stands after both
-pub both-passed : (bs cs : List ℕ) (p q r w larger smaller : ℕ) → Ok larger ≡ fieldIn bs p w → q ≡ placeAfter bs p w → Ok smaller ≡ fieldIn cs q w → r ≡ placeAfter cs q w
+pub both-passed : (bs cs : List ℕ) (p q r w larger smaller : ℕ) → Ok larger ≡ field_in bs p w → q ≡ place_after bs p w → Ok smaller ≡ field_in cs q w → r ≡ place_after cs q w
     → r ≡ p + w + w
 both-passed bs cs p q r w larger smaller first qis second ris =
     ris ∙ cond-true _ _ _ (took cs q w smaller second).0 ∙ ap (λ (x : ℕ). x + w) (qis ∙ cond-true _ _ _ (took bs p w larger first).0)

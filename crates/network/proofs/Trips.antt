@@ -4,16 +4,16 @@ use Rattle.std.specs.List.{range_with_len}
 use Rattle.std.proofs.lemmas.List.{get_or_append_left, get_or-append_right, get_or-append-add, length-append, ext_get_or}
 use Rattle.std.proofs.lemmas.List.FromFn.{length-map-range_with_len, get_or-map-range_with_len}
 use Rattle.std.proofs.lemmas.Bool.{cases_lt, cases_eq, eq-eqb, ne_eqb, eqb-true, ltb-false, le-ltb, lt-ltb, le-leb, leb-true, and_from, and_parts, or_left, or_right, cond_both, not_from_false}
-use Rattle.network.proofs.Faults.{cond-none, cond-none-else, orElse-none, none-orElse, no-fault, each_none, unless-ok}
+use Rattle.network.proofs.Faults.{cond-none, cond-none-else, or_else-none, none-or_else, no-fault, each_none, unless-ok}
 use Rattle.network.proofs.Found.{Found, Small, found, holds}
 use Rattle.network.proofs.Marks.{unnamed}
 use Rattle.network.proofs.Places.{place-within, width-holds}
 use Rattle.network.proofs.Standing.{pack-holds, holds-pack}
-use Rattle.network.specs.Decode.{placeOf, value_at, headerFault, pairFault, placedFault, endFault, bodyFault, fault, sheetOf, couplingsOf, order_of, decode}
-use Rattle.network.specs.Fields.{field, isIn}
-use Rattle.network.specs.Laws.{Bytes, Written-reads, Read-writes}
-use Rattle.network.specs.Refusals.{Fault, refuse, or_else, firstFault, unless}
-use Rattle.network.specs.Sheets.{Sheet, Well, flat, named, pair_at, before, widthTo, width, encode, bitsIn}
+use Rattle.network.specs.Decode.{place_for, value_at, header_fault, pair_fault, placed_fault, end_fault, body_fault, fault, sheet_of, couplings_of, order_of, decode}
+use Rattle.network.specs.Fields.{field, is_in}
+use Rattle.network.specs.Laws.{Bytes, WrittenReads, ReadWrites}
+use Rattle.network.specs.Refusals.{Fault, refuse, or_else, first_fault, unless}
+use Rattle.network.specs.Sheets.{Sheet, Well, flat, named, pair_at, before, width_to, width, encode, bits_in}
 
 -- ---- stations in a row
 
@@ -63,7 +63,7 @@ small s well =
     let fits : s.size ≤ 2 ^ width s.size = width-holds s.size well.few in
     record {
       size = omega (arith, well.few);
-      count = pairs-few s.size m well.few well.fewPairs;
+      count = pairs-few s.size m well.few well.few_pairs;
       values = λ i h. ⊎_elim
           (λ lt. let k = i / 2 in
           let hk : k < m = omega arith in
@@ -88,21 +88,21 @@ none-cond-else : (b : Bool) (x : Option Fault) (n p : ℕ) → b ≡ false → x
 none-cond-else true x n p h g = absurd (let z : ◌≡◌ {A = ℕ} 0 1 = cc in omega arith)
 none-cond-else false x n p h g = g
 
-header-fine : (bs : List ℕ) (s : Sheet) → Found bs s → Well s → headerFault bs ≡ None
-unfolding headerFault placeOf
+header-fine : (bs : List ℕ) (s : Sheet) → Found bs s → Well s → header_fault bs ≡ None
+unfolding header_fault place_for
 header-fine bs s f well =
     let e : field bs 5 10 * (field bs 5 10 - 1) / 2 ≡ s.size * (s.size - 1) / 2 = ap (λ (x : ℕ). x * (x - 1) / 2) f.size in
     let n = field bs 5 10 in
     none-cond-else _ _ 1 0 (le-ltb (length bs) 4 (omega (arith, f.long)))
     (none-cond _ _ 2 0 (eq-eqb _ _ f.kind)
     (none-cond _ _ 3 5 (and_from _ _ (le-leb 1 n (omega (arith, f.size, well.some))) (le-leb n 512 (omega (arith, f.size, well.few))))
-    (none-cond _ _ 4 15 (le-leb (field bs 15 17) (n * (n - 1) / 2) (omega (arith, e, f.count, well.fewPairs))) refl)))
+    (none-cond _ _ 4 15 (le-leb (field bs 15 17) (n * (n - 1) / 2) (omega (arith, e, f.count, well.few_pairs))) refl)))
 
-is-in : (bs : List ℕ) (s : Sheet) → Found bs s → (i : ℕ) → i < length (named s) → isIn bs (placeOf (width s.size) i) (width s.size) ≡ true
+is-in : (bs : List ℕ) (s : Sheet) → Found bs s → (i : ℕ) → i < length (named s) → is_in bs (place_for (width s.size) i) (width s.size) ≡ true
 is-in bs s f i h = le-leb _ _ (omega (arith, f.long, place-within (width s.size) i (length (named s)) h))
 
-pair-fine : (bs : List ℕ) (s : Sheet) → Found bs s → Well s → (k : ℕ) → k < length s.couplings → pairFault bs s.size (width s.size) k ≡ None
-unfolding pairFault
+pair-fine : (bs : List ℕ) (s : Sheet) → Found bs s → Well s → (k : ℕ) → k < length s.couplings → pair_fault bs s.size (width s.size) k ≡ None
+unfolding pair_fault
 pair-fine bs s f well k h =
     let w = width s.size in
     let l = length-named s in
@@ -136,8 +136,8 @@ order_value : (bs : List ℕ) (s : Sheet) → Found bs s → Well s → (k : ℕ
 order_value bs s f well k h = f.values (2 * length s.couplings + k) (omega (arith, length-named s, well.whole)) ∙ named-order s k
 
 order-fine : (bs : List ℕ) (s : Sheet) → Found bs s → Well s → (k : ℕ) → k < s.size
-    → placedFault bs s.size (width s.size) (2 * length s.couplings) k ≡ None
-unfolding placedFault
+    → placed_fault bs s.size (width s.size) (2 * length s.couplings) k ≡ None
+unfolding placed_fault
 order-fine bs s f well k h =
     let value = order_value bs s f well in
     none-cond _ _ 1 _ (is-in bs s f (2 * length s.couplings + k) (omega (arith, length-named s, well.whole)))
@@ -147,15 +147,15 @@ order-fine bs s f well k h =
     (λ j lt e. well.once j k lt h (sym (value j (omega arith)) ∙ e ∙ value k h)))))
     refl)
 
-end-fine : (bs : List ℕ) (s : Sheet) → Found bs s → Well s → endFault bs (placeOf (width s.size) (2 * length s.couplings + s.size)) ≡ None
-unfolding endFault
+end-fine : (bs : List ℕ) (s : Sheet) → Found bs s → Well s → end_fault bs (place_for (width s.size) (2 * length s.couplings + s.size)) ≡ None
+unfolding end_fault
 end-fine bs s f well =
     let l : length (named s) ≡ 2 * length s.couplings + s.size = length-named s ∙ omega (arith, well.whole) in
-    ap (λ (x : ℕ). endFault bs (placeOf (width s.size) x)) (sym l)
+    ap (λ (x : ℕ). end_fault bs (place_for (width s.size) x)) (sym l)
     ∙ none-cond _ _ 8 _ (and_from _ _ (eq-eqb _ _ f.long) (eq-eqb _ _ f.fill)) refl
 
-same-sheet : (bs : List ℕ) (s : Sheet) → Found bs s → Well s → sheetOf bs s.size (length s.couplings) ≡ s
-unfolding couplingsOf order_of
+same-sheet : (bs : List ℕ) (s : Sheet) → Found bs s → Well s → sheet_of bs s.size (length s.couplings) ≡ s
+unfolding couplings_of order_of
 same-sheet bs s f well =
     let w = width s.size in
     let m = length s.couplings in
@@ -177,39 +177,39 @@ same-sheet bs s f well =
     ap₂ make cs os
 
 pub read_back : (bs : List ℕ) (s : Sheet) → Found bs s → Well s → decode bs ≡ Ok s
-unfolding decode fault bodyFault
+unfolding decode fault body_fault
 read_back bs s f well =
-    let body : bodyFault bs s.size (length s.couplings) ≡ None =
-    none-orElse _ _ (no-fault _ _ (pair-fine bs s f well))
-    (none-orElse _ _ (no-fault _ _ (order-fine bs s f well)) (end-fine bs s f well)) in
+    let body : body_fault bs s.size (length s.couplings) ≡ None =
+    none-or_else _ _ (no-fault _ _ (pair-fine bs s f well))
+    (none-or_else _ _ (no-fault _ _ (order-fine bs s f well)) (end-fine bs s f well)) in
     ap₂ unless
-    (none-orElse (headerFault bs) _ (header-fine bs s f well) (ap₂ (bodyFault bs) f.size f.count ∙ body))
-    (ap₂ (sheetOf bs) f.size f.count ∙ same-sheet bs s f well)
+    (none-or_else (header_fault bs) _ (header-fine bs s f well) (ap₂ (body_fault bs) f.size f.count ∙ body))
+    (ap₂ (sheet_of bs) f.size f.count ∙ same-sheet bs s f well)
 
-pub written-reads : Written-reads
+pub written-reads : WrittenReads
 unfolding encode
-written-reads s well = read_back (encode s) s (found (encode s) s (small s well) (pack-holds (bitsIn s))) well
+written-reads s well = read_back (encode s) s (found (encode s) s (small s well) (pack-holds (bits_in s))) well
 
 -- ---- what is read is written
 
-pub found_in : (bs : List ℕ) → fault bs ≡ None → Found bs (sheetOf bs (field bs 5 10) (field bs 15 17))
-unfolding fault bodyFault headerFault endFault couplingsOf order_of
+pub found_in : (bs : List ℕ) → fault bs ≡ None → Found bs (sheet_of bs (field bs 5 10) (field bs 15 17))
+unfolding fault body_fault header_fault end_fault couplings_of order_of
 found_in bs h =
     let n = field bs 5 10 in
     let m = field bs 15 17 in
     let w = width n in
-    let s = sheetOf bs n m in
+    let s = sheet_of bs n m in
     let pair : ℕ → ℕ × ℕ = λ k. (value_at bs w (2 * k), value_at bs w (2 * k + 1)) in
     let station : ℕ → ℕ = λ k. value_at bs w (2 * m + k) in
     let lp : length s.couplings ≡ m = length-map-range_with_len pair 0 m in
     let lo : length s.order ≡ n = length-map-range_with_len station 0 n in
     let l : length (named s) ≡ 2 * m + n = length-named s ∙ omega arith in
-    let h0 = orElse-none (headerFault bs) (bodyFault bs n m) h in
+    let h0 = or_else-none (header_fault bs) (body_fault bs n m) h in
     let h1 = cond-none-else _ _ 1 0 h0.0 in
     let h2 = cond-none _ _ 2 0 h1.1 in
-    let t = placeOf w (2 * m + n) in
-    let h3 = orElse-none (firstFault (pairFault bs n w) m) (or_else (firstFault (placedFault bs n w (2 * m)) n) (endFault bs t)) h0.1 in
-    let h4 = orElse-none (firstFault (placedFault bs n w (2 * m)) n) (endFault bs t) h3.1 in
+    let t = place_for w (2 * m + n) in
+    let h3 = or_else-none (first_fault (pair_fault bs n w) m) (or_else (first_fault (placed_fault bs n w (2 * m)) n) (end_fault bs t)) h0.1 in
+    let h4 = or_else-none (first_fault (placed_fault bs n w (2 * m)) n) (end_fault bs t) h3.1 in
     let h5 = cond-none (eqb (length bs) ((t + 7) / 8) && eqb (field bs t (8 * ((t + 7) / 8) - t)) 0) None 8 t h4.1 in
     let h6 = and_parts (eqb (length bs) ((t + 7) / 8)) (eqb (field bs t (8 * ((t + 7) / 8) - t)) 0) h5.0 in
     record {
@@ -233,14 +233,14 @@ found_in bs h =
           sym (ap (λ (x : ℕ). get_or (named s) x 0) (sym q ∙ ap (λ (x : ℕ). 2 * x + k) (sym lp)) ∙ named-order s k
           ∙ get_or-map-range_with_len station 0 n k k 0 hk (omega arith) ∙ ap (value_at bs w) q))
           (cases_lt i (2 * m));
-      long = eqb-true _ _ h6.0 ∙ ap (λ (x : ℕ). (placeOf w x + 7) / 8) (sym l);
-      fill = let P : ℕ → Type 0 = λ x. field bs (placeOf w x) (8 * ((placeOf w x + 7) / 8) - placeOf w x) ≡ 0 in
+      long = eqb-true _ _ h6.0 ∙ ap (λ (x : ℕ). (place_for w x + 7) / 8) (sym l);
+      fill = let P : ℕ → Type 0 = λ x. field bs (place_for w x) (8 * ((place_for w x + 7) / 8) - place_for w x) ≡ 0 in
           subst P (sym l) (eqb-true _ _ h6.1);
     }
 
-pub read-writes : Read-writes
+pub read-writes : ReadWrites
 unfolding encode decode
 read-writes bs s b h =
-    let both = unless-ok (fault bs) (sheetOf bs (field bs 5 10) (field bs 15 17)) s (sym h) in
+    let both = unless-ok (fault bs) (sheet_of bs (field bs 5 10) (field bs 15 17)) s (sym h) in
     let f : Found bs s = subst (Found bs) (sym both.1) (found_in bs both.0) in
-    holds-pack bs (bitsIn s) b (holds bs s f)
+    holds-pack bs (bits_in s) b (holds bs s f)

@@ -7,9 +7,9 @@ use Rattle.std.proofs.lemmas.Bool.Decides.{nat_tests}
 use Rattle.std.proofs.lemmas.List.{get_or-set_same, get_or-set_other, get_or_past, length-set}
 use Rattle.std.proofs.lemmas.Nat.{one_shl, shl_whole, shl_below}
 use Rattle.network.specs.Bits.{bit_at}
-use Rattle.network.proofs.Bits.{bitAt-or, bitAt-and, bitAt-not}
-use Rattle.network.proofs.Bits.{bitAt-low}
-use Rattle.network.proofs.Bits.{bitAt-shr, bitAt-shl, bitAt-shl-low, bitAt-high, bitAt-mod}
+use Rattle.network.proofs.Bits.{bit_at-or, bit_at-and, bit_at-not}
+use Rattle.network.proofs.Bits.{bit_at-low}
+use Rattle.network.proofs.Bits.{bit_at-shr, bit_at-shl, bit_at-shl-low, bit_at-high, bit_at-mod}
 use Rattle.network.specs.Fields.{bit_of, field, Written}
 use Rattle.network.proofs.Fields.{bit-field}
 
@@ -39,25 +39,25 @@ module _ (x v w s : ℕ) (hw : w + s ≤ 24) (hx : x < 2 ^ 24) (hv : v < 2 ^ w) 
       let l32 : w + s ≤ 32 = omega arith in
       let m32 : 2 ^ (w + s) ≤ 2 ^ 32 = pow_mono l32 in
       let small : (2 ^ w - 1) * 2 ^ s < 2 ^ 32 = lt_of_lt_of_le (shl_below (2 ^ w - 1) w s (ones_lt w)) m32 in
-      ap (λ (n : ℕ). bit_at n i) parts ∙ bitAt-or _ _ i
-      ∙ ap (λ b. b || bit_at (v * 2 ^ s) i) (bitAt-and x _ i ∙ ap (λ b. bit_at x i && b) (bitAt-not 32 _ i small (omega arith)))
+      ap (λ (n : ℕ). bit_at n i) parts ∙ bit_at-or _ _ i
+      ∙ ap (λ b. b || bit_at (v * 2 ^ s) i) (bit_at-and x _ i ∙ ap (λ b. bit_at x i && b) (bit_at-not 32 _ i small (omega arith)))
       ∙ ⊎_elim
-      (λ lt. let a : bit_at ((2 ^ w - 1) * 2 ^ s) i ≡ false = bitAt-shl-low _ s i lt in
-      let b : bit_at (v * 2 ^ s) i ≡ false = bitAt-shl-low v s i lt in
+      (λ lt. let a : bit_at ((2 ^ w - 1) * 2 ^ s) i ≡ false = bit_at-shl-low _ s i lt in
+      let b : bit_at (v * 2 ^ s) i ≡ false = bit_at-shl-low v s i lt in
       let t : leb s i ≡ false = lt-leb s i lt in
       grind arith)
       (λ ge. let e : s + (i - s) ≡ i = omega arith in
-      let a : bit_at ((2 ^ w - 1) * 2 ^ s) i ≡ ltb (i - s) w = ap (bit_at ((2 ^ w - 1) * 2 ^ s)) (sym e) ∙ bitAt-shl _ s (i - s) ∙ bitAt-low w (i - s) in
-      let b : bit_at (v * 2 ^ s) i ≡ bit_at v (i - s) = ap (bit_at (v * 2 ^ s)) (sym e) ∙ bitAt-shl v s (i - s) in
+      let a : bit_at ((2 ^ w - 1) * 2 ^ s) i ≡ ltb (i - s) w = ap (bit_at ((2 ^ w - 1) * 2 ^ s)) (sym e) ∙ bit_at-shl _ s (i - s) ∙ bit_at-low w (i - s) in
+      let b : bit_at (v * 2 ^ s) i ≡ bit_at v (i - s) = ap (bit_at (v * 2 ^ s)) (sym e) ∙ bit_at-shl v s (i - s) in
       let t : leb s i ≡ true = le-leb s i ge in
       let u : ltb (i - s) w ≡ ltb i (s + w) = grind (arith, nat_tests) in
-      let z : ltb i (s + w) ≡ false → bit_at v (i - s) ≡ false = λ f. bitAt-high w v (i - s) hv (omega (arith, ltb-false i (s + w) f)) in
+      let z : ltb i (s + w) ≡ false → bit_at v (i - s) ≡ false = λ f. bit_at-high w v (i - s) hv (omega (arith, ltb-false i (s + w) f)) in
       grind arith)
       (cases_lt i s)
 
 digit : (n k m : ℕ) → m < 8 → bit_at (n / 2 ^ k % 2 ^ 8) m ≡ bit_at n (k + m)
 digit n k m h = let t : ltb m 8 ≡ true = lt-ltb m 8 h in
-    bitAt-mod (n / 2 ^ k) 8 m ∙ rw t (and-true (bit_at (n / 2 ^ k) m) ∙ bitAt-shr n k m)
+    bit_at-mod (n / 2 ^ k) 8 m ∙ rw t (and-true (bit_at (n / 2 ^ k) m) ∙ bit_at-shr n k m)
   where
     and-true : (b : Bool) → (b && true) ≡ b
     and-true true = refl

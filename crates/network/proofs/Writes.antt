@@ -2,15 +2,15 @@
 use Rattle.std.proofs.Common.{◌≡◌, ℕ, zero, suc, ◌+◌, ◌-◌, ◌*◌, ◌/◌, ◌%◌, ◌<◌, ◌≤◌, Bool, true, false, cond, List, [], ◌∷◌, ◌++◌, length, get_or, replicate, sym, refl, ap, ◌∙◌, subst, ⊎_elim, append_assoc, add-one, arith}
 use Rattle.std.proofs.lemmas.List.{get_or_append_left, get_or-append_right, get_or_past, get_or-replicate, length-append, length-replicate, append-nil}
 use Rattle.std.proofs.lemmas.Bool.{cases_lt}
-use Rattle.network.proofs.Bits.{bitAt-none}
-use Rattle.network.proofs.Standing.{length-bitsOf, getD-bitsOf, length-spread, holds-pack, Holds}
+use Rattle.network.proofs.Bits.{bit_at-none}
+use Rattle.network.proofs.Standing.{length-bits_of, get_or-bits_of, length-spread, holds-pack, Holds}
 use Rattle.network.proofs.Trips.{length-flat}
 use Rattle.network.specs.declared.bit_fields.BitWriter.{BitWriter}
 use Rattle.network.specs.Bits.{bit_at}
 use Rattle.network.specs.Fields.{bit_of, Written}
 use Rattle.network.specs.Laws.{Bytes}
-use Rattle.network.specs.Sheets.{bits_of, spread, flat, pack, rowTo, pairsTo}
-use Rattle.network.specs.Writing.{WrittenBits, Puts, head_bits, pairBits}
+use Rattle.network.specs.Sheets.{bits_of, spread, flat, pack, row_to, pairs_to}
+use Rattle.network.specs.Writing.{WrittenBits, Puts, head_bits, pair_bits}
 
 -- ---- one part after another
 
@@ -44,21 +44,21 @@ pub puts-field : (old new : BitWriter) {w v : ℕ} → new.bytes.ghost_name ≡ 
     → Written old.bytes.now new.bytes.now old.at w v w → Puts old new (bits_of w v)
 puts-field old new {w} {v} same place size so = record {
   lender = same;
-  place = omega (arith, length-bitsOf w v);
+  place = omega (arith, length-bits_of w v);
   size = size;
   written = record {
-    inside = λ k h. let lt : k < w = omega (arith, length-bitsOf w v) in so.inside k lt ∙ sym (getD-bitsOf w v k lt);
+    inside = λ k h. let lt : k < w = omega (arith, length-bits_of w v) in so.inside k lt ∙ sym (get_or-bits_of w v k lt);
     before = so.before;
-    after = λ i h. so.after i (omega (arith, length-bitsOf w v));
+    after = λ i h. so.after i (omega (arith, length-bits_of w v));
   };
 }
 
 -- ---- the header, stations and couplings
 
-pub length-headBits : (n m : ℕ) → length (head_bits n m) ≡ 32
+pub length-head_bits : (n m : ℕ) → length (head_bits n m) ≡ 32
 unfolding head_bits
-length-headBits n m =
-    omega (arith, length-append (bits_of 5 1) (bits_of 10 n ++ bits_of 17 m), length-append (bits_of 10 n) (bits_of 17 m), length-bitsOf 5 1, length-bitsOf 10 n, length-bitsOf 17 m)
+length-head_bits n m =
+    omega (arith, length-append (bits_of 5 1) (bits_of 10 n ++ bits_of 17 m), length-append (bits_of 10 n) (bits_of 17 m), length-bits_of 5 1, length-bits_of 10 n, length-bits_of 17 m)
 
 pub puts-head : {a b c d : BitWriter} (n m : ℕ) → Puts a b (bits_of 5 1) → Puts b c (bits_of 10 n) → Puts c d (bits_of 17 m) → Puts a d (head_bits n m)
 unfolding head_bits
@@ -87,72 +87,72 @@ unfolding flat
 flat_append [] qs = refl
 flat_append (p ∷ ps) qs = ap (λ l. p.0 ∷ (p.1 ∷ l)) (flat_append ps qs)
 
-pairBits-append : (w : ℕ) (ps qs : List (ℕ × ℕ)) → pairBits w (ps ++ qs) ≡ pairBits w ps ++ pairBits w qs
-unfolding pairBits
-pairBits-append w ps qs = ap (spread w) (flat_append ps qs) ∙ spread-append w (flat ps) (flat qs)
+pair_bits-append : (w : ℕ) (ps qs : List (ℕ × ℕ)) → pair_bits w (ps ++ qs) ≡ pair_bits w ps ++ pair_bits w qs
+unfolding pair_bits
+pair_bits-append w ps qs = ap (spread w) (flat_append ps qs) ∙ spread-append w (flat ps) (flat qs)
 
-pub length-pairBits : (w : ℕ) (ps : List (ℕ × ℕ)) → length (pairBits w ps) ≡ w * (2 * length ps)
-unfolding pairBits
-length-pairBits w ps = length-spread w (flat ps) ∙ ap (λ (x : ℕ). w * x) (length-flat ps)
+pub length-pair_bits : (w : ℕ) (ps : List (ℕ × ℕ)) → length (pair_bits w ps) ≡ w * (2 * length ps)
+unfolding pair_bits
+length-pair_bits w ps = length-spread w (flat ps) ∙ ap (λ (x : ℕ). w * x) (length-flat ps)
 
-pub puts-pair : {a b c : BitWriter} (w larger smaller : ℕ) → Puts a b (bits_of w larger) → Puts b c (bits_of w smaller) → Puts a c (pairBits w ((larger, smaller) ∷ []))
-unfolding pairBits flat spread
+pub puts-pair : {a b c : BitWriter} (w larger smaller : ℕ) → Puts a b (bits_of w larger) → Puts b c (bits_of w smaller) → Puts a c (pair_bits w ((larger, smaller) ∷ []))
+unfolding pair_bits flat spread
 puts-pair {a} {b} {c} w larger smaller s t =
     subst (λ l. Puts a c (bits_of w larger ++ l)) (sym (spread-one w smaller)) (puts-both (bits_of w larger) (bits_of w smaller) s t)
 
 -- ---- rows of couplings
 
-pub row-none : (w : ℕ) (C : ℕ → ℕ → Bool) (a : ℕ) → pairBits w (rowTo C a 0) ≡ []
-unfolding pairBits rowTo flat spread
+pub row-none : (w : ℕ) (C : ℕ → ℕ → Bool) (a : ℕ) → pair_bits w (row_to C a 0) ≡ []
+unfolding pair_bits row_to flat spread
 row-none w C a = refl
 
-pub row-yes : (w : ℕ) (C : ℕ → ℕ → Bool) (a b : ℕ) → C a b ≡ true → pairBits w (rowTo C a (b + 1)) ≡ pairBits w (rowTo C a b) ++ pairBits w ((a, b) ∷ [])
-unfolding rowTo
-row-yes w C a b h = rw add-one (ap (λ t. pairBits w (rowTo C a b ++ cond t ((a, b) ∷ []) [])) h ∙ pairBits-append w (rowTo C a b) ((a, b) ∷ []))
+pub row-yes : (w : ℕ) (C : ℕ → ℕ → Bool) (a b : ℕ) → C a b ≡ true → pair_bits w (row_to C a (b + 1)) ≡ pair_bits w (row_to C a b) ++ pair_bits w ((a, b) ∷ [])
+unfolding row_to
+row-yes w C a b h = rw add-one (ap (λ t. pair_bits w (row_to C a b ++ cond t ((a, b) ∷ []) [])) h ∙ pair_bits-append w (row_to C a b) ((a, b) ∷ []))
 
-pub row-no : (w : ℕ) (C : ℕ → ℕ → Bool) (a b : ℕ) → C a b ≡ false → pairBits w (rowTo C a (b + 1)) ≡ pairBits w (rowTo C a b)
-unfolding rowTo
-row-no w C a b h = rw add-one (ap (λ t. pairBits w (rowTo C a b ++ cond t ((a, b) ∷ []) [])) h ∙ ap (pairBits w) (append-nil (rowTo C a b)))
+pub row-no : (w : ℕ) (C : ℕ → ℕ → Bool) (a b : ℕ) → C a b ≡ false → pair_bits w (row_to C a (b + 1)) ≡ pair_bits w (row_to C a b)
+unfolding row_to
+row-no w C a b h = rw add-one (ap (λ t. pair_bits w (row_to C a b ++ cond t ((a, b) ∷ []) [])) h ∙ ap (pair_bits w) (append-nil (row_to C a b)))
 
-row-le : (w : ℕ) (C : ℕ → ℕ → Bool) (a b d : ℕ) → b ≤ d → length (pairBits w (rowTo C a b)) ≤ length (pairBits w (rowTo C a d))
-unfolding rowTo
-row-le w C a b zero h = let e : b ≡ 0 = omega arith in omega (arith, ap (λ (x : ℕ). length (pairBits w (rowTo C a x))) e)
+row-le : (w : ℕ) (C : ℕ → ℕ → Bool) (a b d : ℕ) → b ≤ d → length (pair_bits w (row_to C a b)) ≤ length (pair_bits w (row_to C a d))
+unfolding row_to
+row-le w C a b zero h = let e : b ≡ 0 = omega arith in omega (arith, ap (λ (x : ℕ). length (pair_bits w (row_to C a x))) e)
 row-le w C a b (suc d) h =
     let one : List (ℕ × ℕ) = cond (C a d) ((a, d) ∷ []) [] in
     ⊎_elim
-    (λ lt. omega (arith, ap length (pairBits-append w (rowTo C a d) one), length-append (pairBits w (rowTo C a d)) (pairBits w one), row-le w C a b d (omega arith)))
-    (λ ge. let e : b ≡ suc d = omega arith in omega (arith, ap (λ (x : ℕ). length (pairBits w (rowTo C a x))) e))
+    (λ lt. omega (arith, ap length (pair_bits-append w (row_to C a d) one), length-append (pair_bits w (row_to C a d)) (pair_bits w one), row-le w C a b d (omega arith)))
+    (λ ge. let e : b ≡ suc d = omega arith in omega (arith, ap (λ (x : ℕ). length (pair_bits w (row_to C a x))) e))
     (cases_lt b (suc d))
 
 -- a coupling of a row has room where the row has
 pub row_room : (w : ℕ) (C : ℕ → ℕ → Bool) (a b : ℕ) → b < a → C a b ≡ true
-    → length (pairBits w (rowTo C a b)) + length (pairBits w ((a, b) ∷ [])) ≤ length (pairBits w (rowTo C a a))
+    → length (pair_bits w (row_to C a b)) + length (pair_bits w ((a, b) ∷ [])) ≤ length (pair_bits w (row_to C a a))
 row_room w C a b lt h =
-    omega (arith, row-le w C a (b + 1) a (omega arith), ap length (row-yes w C a b h), length-append (pairBits w (rowTo C a b)) (pairBits w ((a, b) ∷ [])))
+    omega (arith, row-le w C a (b + 1) a (omega arith), ap length (row-yes w C a b h), length-append (pair_bits w (row_to C a b)) (pair_bits w ((a, b) ∷ [])))
 
 -- ---- all couplings
 
-pub pairs-none : (w : ℕ) (C : ℕ → ℕ → Bool) → pairBits w (pairsTo C 0) ≡ []
-unfolding pairBits pairsTo flat spread
+pub pairs-none : (w : ℕ) (C : ℕ → ℕ → Bool) → pair_bits w (pairs_to C 0) ≡ []
+unfolding pair_bits pairs_to flat spread
 pairs-none w C = refl
 
-pub pairs-more : (w : ℕ) (C : ℕ → ℕ → Bool) (a : ℕ) → pairBits w (pairsTo C (a + 1)) ≡ pairBits w (pairsTo C a) ++ pairBits w (rowTo C a a)
-unfolding pairsTo
-pairs-more w C a = rw add-one (pairBits-append w (pairsTo C a) (rowTo C a a))
+pub pairs-more : (w : ℕ) (C : ℕ → ℕ → Bool) (a : ℕ) → pair_bits w (pairs_to C (a + 1)) ≡ pair_bits w (pairs_to C a) ++ pair_bits w (row_to C a a)
+unfolding pairs_to
+pairs-more w C a = rw add-one (pair_bits-append w (pairs_to C a) (row_to C a a))
 
-pairs-le : (w : ℕ) (C : ℕ → ℕ → Bool) (a n : ℕ) → a ≤ n → length (pairBits w (pairsTo C a)) ≤ length (pairBits w (pairsTo C n))
-unfolding pairsTo
-pairs-le w C a zero h = let e : a ≡ 0 = omega arith in omega (arith, ap (λ (x : ℕ). length (pairBits w (pairsTo C x))) e)
+pairs-le : (w : ℕ) (C : ℕ → ℕ → Bool) (a n : ℕ) → a ≤ n → length (pair_bits w (pairs_to C a)) ≤ length (pair_bits w (pairs_to C n))
+unfolding pairs_to
+pairs-le w C a zero h = let e : a ≡ 0 = omega arith in omega (arith, ap (λ (x : ℕ). length (pair_bits w (pairs_to C x))) e)
 pairs-le w C a (suc n) h =
     ⊎_elim
-    (λ lt. omega (arith, ap length (pairBits-append w (pairsTo C n) (rowTo C n n)), length-append (pairBits w (pairsTo C n)) (pairBits w (rowTo C n n)), pairs-le w C a n (omega arith)))
-    (λ ge. let e : a ≡ suc n = omega arith in omega (arith, ap (λ (x : ℕ). length (pairBits w (pairsTo C x))) e))
+    (λ lt. omega (arith, ap length (pair_bits-append w (pairs_to C n) (row_to C n n)), length-append (pair_bits w (pairs_to C n)) (pair_bits w (row_to C n n)), pairs-le w C a n (omega arith)))
+    (λ ge. let e : a ≡ suc n = omega arith in omega (arith, ap (λ (x : ℕ). length (pair_bits w (pairs_to C x))) e))
     (cases_lt a (suc n))
 
 -- a row has room where all couplings have
-pub pairs-room : (w : ℕ) (C : ℕ → ℕ → Bool) (a n : ℕ) → a < n → length (pairBits w (pairsTo C a)) + length (pairBits w (rowTo C a a)) ≤ length (pairBits w (pairsTo C n))
+pub pairs-room : (w : ℕ) (C : ℕ → ℕ → Bool) (a n : ℕ) → a < n → length (pair_bits w (pairs_to C a)) + length (pair_bits w (row_to C a a)) ≤ length (pair_bits w (pairs_to C n))
 pairs-room w C a n lt =
-    omega (arith, pairs-le w C (a + 1) n (omega arith), ap length (pairs-more w C a), length-append (pairBits w (pairsTo C a)) (pairBits w (rowTo C a a)))
+    omega (arith, pairs-le w C (a + 1) n (omega arith), ap length (pairs-more w C a), length-append (pair_bits w (pairs_to C a)) (pair_bits w (row_to C a a)))
 
 -- ---- all bits
 
@@ -167,6 +167,6 @@ wrote-pack n p bs cs bits zeros start bytes long so =
     let it : Holds cs bits = record {
       reads = λ i h. sym (so.inside i h) ∙ ap (λ (x : ℕ). bit_of cs (x + i)) start;
       long = long;
-      fill = λ i h. so.after i (omega arith) ∙ ap (λ (l : List ℕ). bit_at (get_or l (i / 8) 0) (7 - i % 8)) zeros ∙ ap (λ (x : ℕ). bit_at x (7 - i % 8)) (zero-at n (i / 8)) ∙ bitAt-none _;
+      fill = λ i h. so.after i (omega arith) ∙ ap (λ (l : List ℕ). bit_at (get_or l (i / 8) 0) (7 - i % 8)) zeros ∙ ap (λ (x : ℕ). bit_at x (7 - i % 8)) (zero-at n (i / 8)) ∙ bit_at-none _;
     } in
     sym (holds-pack cs bits bytes it)

@@ -13,16 +13,16 @@ field bs p zero = 0
 field bs p (suc w) = field bs p w * 2 + cond (bit_of bs (p + w)) 1 0
 
 -- the field of w bits from p on ends within the bytes
-abbrev pub isIn : List ℕ → ℕ → ℕ → Bool
-isIn bs p w = nat_le (p + w) (8 * length bs)
+abbrev pub is_in : List ℕ → ℕ → ℕ → Bool
+is_in bs p w = nat_le (p + w) (8 * length bs)
 
 -- the field, or the refusal of one that is not whole
-abbrev pub fieldIn : List ℕ → ℕ → ℕ → Result ℕ Fault
-fieldIn bs p w = cond (isIn bs p w) (Ok (field bs p w)) (Err (at 1 p))
+abbrev pub field_in : List ℕ → ℕ → ℕ → Result ℕ Fault
+field_in bs p w = cond (is_in bs p w) (Ok (field bs p w)) (Err (at 1 p))
 
 -- the place after it is read: a field that is refused is not passed
-abbrev pub placeAfter : List ℕ → ℕ → ℕ → ℕ
-placeAfter bs p w = cond (isIn bs p w) (p + w) p
+abbrev pub place_after : List ℕ → ℕ → ℕ → ℕ
+place_after bs p w = cond (is_in bs p w) (p + w) p
 
 -- bs' is bs with the first n of the w bits of the number v written from the place p on, and no other bit changed
 pub record Written (bs bs' : List ℕ) (p w v n : ℕ) : Type 0 where

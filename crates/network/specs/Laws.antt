@@ -1,6 +1,6 @@
 -- Laws in the subject's words, above the definitions that compute.
 use Rattle.std.specs.Prelude.{◌≡◌, ℕ, ◌^◌, ◌<◌, ◌≤◌, Bool, true, false, List, length, Some, None, Ok, Option, slice_index}
-use Rattle.network.specs.Net.{Net, nextCoupled}
+use Rattle.network.specs.Net.{Net, next_coupled}
 use Rattle.network.specs.Sheets.{Sheet, Well, encode}
 use Rattle.network.specs.Decode.{decode}
 
@@ -13,8 +13,8 @@ abbrev pub NextIs : Net → ℕ → ℕ → Option ℕ → Type 0
 NextIs net station from = FirstIs (net.coupled station) from net.size
 
 -- the next coupled station is the smallest one from there on
-abbrev pub Next-is-smallest : Type 0
-Next-is-smallest = (net : Net) (station from : ℕ) → NextIs net station from (nextCoupled net station from)
+abbrev pub NextIsSmallest : Type 0
+NextIsSmallest = (net : Net) (station from : ℕ) → NextIs net station from (next_coupled net station from)
 
 -- ---- sheets
 
@@ -23,13 +23,13 @@ abbrev pub Bytes : List ℕ → Type 0
 Bytes bs = (j : ℕ) → j < length bs → slice_index bs j < 2 ^ 8
 
 -- a sheet that is written reads as itself
-abbrev pub Written-reads : Type 0
-Written-reads = (s : Sheet) → Well s → decode (encode s) ≡ Ok s
+abbrev pub WrittenReads : Type 0
+WrittenReads = (s : Sheet) → Well s → decode (encode s) ≡ Ok s
 
 -- bytes that are read are written as the same bytes
-abbrev pub Read-writes : Type 0
-Read-writes = (bs : List ℕ) (s : Sheet) → Bytes bs → decode bs ≡ Ok s → encode s ≡ bs
+abbrev pub ReadWrites : Type 0
+ReadWrites = (bs : List ℕ) (s : Sheet) → Bytes bs → decode bs ≡ Ok s → encode s ≡ bs
 
 -- what is read is a network and one of its orders
-abbrev pub Read-well : Type 0
-Read-well = (bs : List ℕ) (s : Sheet) → decode bs ≡ Ok s → Well s
+abbrev pub ReadWell : Type 0
+ReadWell = (bs : List ℕ) (s : Sheet) → decode bs ≡ Ok s → Well s

@@ -14,10 +14,10 @@ pub record Lawful (net : Net) : Type 0 where
   pub within : (a b : ℕ) → net.coupled a b ≡ true → a < net.size
 
 -- the first of the k numbers from t on that passes the test
-unfoldable pub firstFrom : (ℕ → Bool) → ℕ → ℕ → Option ℕ
-firstFrom test t zero = None
-firstFrom test t (suc k) = cond (test t) (Some t) (firstFrom test (suc t) k)
+unfoldable pub first_from : (ℕ → Bool) → ℕ → ℕ → Option ℕ
+first_from test t zero = None
+first_from test t (suc k) = cond (test t) (Some t) (first_from test (suc t) k)
 
 -- the smallest station not below `from` that is coupled with `station`, or none
-unfoldable pub nextCoupled : Net → ℕ → ℕ → Option ℕ
-nextCoupled net station from = firstFrom (net.coupled station) from (net.size - from)
+unfoldable pub next_coupled : Net → ℕ → ℕ → Option ℕ
+next_coupled net station from = first_from (net.coupled station) from (net.size - from)

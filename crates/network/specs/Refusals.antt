@@ -35,8 +35,8 @@ told (UnusablePivot p) = at 19 p
 told SheetTooLong = at 20 0
 
 -- no two refusals tell the same, so number and place say which one it is
-abbrev pub Told-apart : Type 0
-Told-apart = (e f : Refusal) → told e ≡ told f → e ≡ f
+abbrev pub ToldApart : Type 0
+ToldApart = (e f : Refusal) → told e ≡ told f → e ≡ f
 
 -- what a call answered, by what its refusal tells
 abbrev pub outcome : {X : Type 0} → Result X Refusal → Result X Fault
@@ -57,9 +57,9 @@ or_else (Some f) later = Some f
 or_else None later = later
 
 -- the first fault among those found at 0, 1, .. up to, without, k
-unfoldable pub firstFault : (ℕ → Option Fault) → ℕ → Option Fault
-firstFault found zero = None
-firstFault found (suc k) = or_else (firstFault found k) (found k)
+unfoldable pub first_fault : (ℕ → Option Fault) → ℕ → Option Fault
+first_fault found zero = None
+first_fault found (suc k) = or_else (first_fault found k) (found k)
 
 -- an answer, unless a fault was found
 abbrev pub unless : {X : Type 0} → Option Fault → X → Result X Fault

@@ -13,12 +13,12 @@ pub record Sheet : Type 0 where
 -- ---- the bytes of a sheet
 
 -- the width of a station's field: the smallest w of 1 to 9 with n ≤ 2 ^ w, where n ≤ 512
-unfoldable pub widthTo : ℕ → ℕ → ℕ
-widthTo n zero = 1
-widthTo n (suc k) = cond (nat_lt (2 ^ suc k) n) (suc (suc k)) (widthTo n k)
+unfoldable pub width_to : ℕ → ℕ → ℕ
+width_to n zero = 1
+width_to n (suc k) = cond (nat_lt (2 ^ suc k) n) (suc (suc k)) (width_to n k)
 
 unfoldable pub width : ℕ → ℕ
-width n = widthTo n 8
+width n = width_to n 8
 
 -- a number in w bits, the highest first
 unfoldable pub bits_of : ℕ → ℕ → List Bool
@@ -49,39 +49,39 @@ abbrev pub named : Sheet → List ℕ
 named s = flat s.couplings ++ s.order
 
 -- kind, size, number of couplings, then the stations
-unfoldable pub bitsIn : Sheet → List Bool
-bitsIn s = bits_of 5 1 ++ (bits_of 10 s.size ++ (bits_of 17 (length s.couplings) ++ spread (width s.size) (named s)))
+unfoldable pub bits_in : Sheet → List Bool
+bits_in s = bits_of 5 1 ++ (bits_of 10 s.size ++ (bits_of 17 (length s.couplings) ++ spread (width s.size) (named s)))
 
 unfoldable pub encode : Sheet → List ℕ
-encode s = pack (bitsIn s)
+encode s = pack (bits_in s)
 
 -- ---- a sheet as a network with an order
 
 -- the pair a b is one of the pairs
-unfoldable pub hasPair : List (ℕ × ℕ) → ℕ → ℕ → Bool
-hasPair [] a b = false
-hasPair (p ∷ ps) a b = (p.0 == a && p.1 == b) || hasPair ps a b
+unfoldable pub has_pair : List (ℕ × ℕ) → ℕ → ℕ → Bool
+has_pair [] a b = false
+has_pair (p ∷ ps) a b = (p.0 == a && p.1 == b) || has_pair ps a b
 
 -- two numbers are coupled if they are different stations, and the sheet has their pair
-abbrev pub sheetNet : Sheet → Net
-sheetNet s = record {
+abbrev pub sheet_net : Sheet → Net
+sheet_net s = record {
   size = s.size;
-  coupled = λ a b. nat_lt a s.size && (nat_lt b s.size && (not (a == b) && hasPair s.couplings (max a b) (min a b)));
+  coupled = λ a b. nat_lt a s.size && (nat_lt b s.size && (not (a == b) && has_pair s.couplings (max a b) (min a b)));
 }
 
 -- the couplings of a with the stations below b, rising
-unfoldable pub rowTo : (ℕ → ℕ → Bool) → ℕ → ℕ → List (ℕ × ℕ)
-rowTo coupled a zero = []
-rowTo coupled a (suc b) = rowTo coupled a b ++ cond (coupled a b) ((a, b) ∷ []) []
+unfoldable pub row_to : (ℕ → ℕ → Bool) → ℕ → ℕ → List (ℕ × ℕ)
+row_to coupled a zero = []
+row_to coupled a (suc b) = row_to coupled a b ++ cond (coupled a b) ((a, b) ∷ []) []
 
 -- the couplings whose larger station is below a, rising by larger, then smaller
-unfoldable pub pairsTo : (ℕ → ℕ → Bool) → ℕ → List (ℕ × ℕ)
-pairsTo coupled zero = []
-pairsTo coupled (suc a) = pairsTo coupled a ++ rowTo coupled a a
+unfoldable pub pairs_to : (ℕ → ℕ → Bool) → ℕ → List (ℕ × ℕ)
+pairs_to coupled zero = []
+pairs_to coupled (suc a) = pairs_to coupled a ++ row_to coupled a a
 
 -- the sheet of a network and one of its orders
-abbrev pub sheetFrom : Net → List ℕ → Sheet
-sheetFrom net order = record { size = net.size; couplings = pairsTo net.coupled net.size; order = order }
+abbrev pub sheet_from : Net → List ℕ → Sheet
+sheet_from net order = record { size = net.size; couplings = pairs_to net.coupled net.size; order = order }
 
 -- ---- what a sheet may say
 
@@ -96,7 +96,7 @@ pair_at s k = slice_index_or s.couplings k (0, 0)
 pub record Well (s : Sheet) : Type 0 where
   pub some : 1 ≤ s.size
   pub few : s.size ≤ 512
-  pub fewPairs : length s.couplings ≤ s.size * (s.size - 1) / 2
+  pub few_pairs : length s.couplings ≤ s.size * (s.size - 1) / 2
   pub inside : (k : ℕ) → k < length s.couplings → (pair_at s k).0 < s.size
   pub falling : (k : ℕ) → k < length s.couplings → (pair_at s k).1 < (pair_at s k).0
   pub rising : (k : ℕ) → suc k < length s.couplings
@@ -106,5 +106,5 @@ pub record Well (s : Sheet) : Type 0 where
   pub once : (j k : ℕ) → j < k → k < s.size → slice_index s.order j ≢ slice_index s.order k
 
 -- one station, which is its own order
-abbrev pub loneSheet : Sheet
-loneSheet = record { size = 1; couplings = []; order = 0 ∷ [] }
+abbrev pub lone_sheet : Sheet
+lone_sheet = record { size = 1; couplings = []; order = 0 ∷ [] }

@@ -26,5 +26,5 @@ unfoldable pub head_bits : ℕ → ℕ → List Bool
 head_bits n m = bits_of 5 1 ++ (bits_of 10 n ++ bits_of 17 m)
 
 -- couplings, each as two stations of w bits
-unfoldable pub pairBits : ℕ → List (ℕ × ℕ) → List Bool
-pairBits w pairs = spread w (flat pairs)
+unfoldable pub pair_bits : ℕ → List (ℕ × ℕ) → List Bool
+pair_bits w pairs = spread w (flat pairs)

@@ -2,7 +2,7 @@
 //! each over a slice with a bit place. A field is read or refused whole; a write changes exactly its bits.
 ghost use Rattle.std.specs.Prelude.{◌≡◌, ℕ, ◌+◌, ◌-◌, ◌*◌, ◌/◌, ◌%◌, ◌^◌, ◌<◌, ◌≤◌, ◌&&◌, length, if◌then◌else◌, nat_le, nat_lt, slice_index, slice_set};
 ghost use Rattle.network.specs.Bits.{bit_at};
-ghost use Rattle.network.specs.Fields.{field, fieldIn, placeAfter, Written};
+ghost use Rattle.network.specs.Fields.{field, field_in, place_after, Written};
 ghost use Rattle.network.specs.Refusals.{outcome};
 
 use crate::refusal::Refusal;
@@ -61,8 +61,8 @@ impl<'a> BitReader<'a> {
     /// The next field, or its refusal where it is not whole; then the place stays.
     pub(crate) fn take(&mut self, width: usize) -> Result<u32, Refusal>
         requires { (width ≤ 17) × (self.old.at < 2 ^ 32) }
-        ensures value { outcome result ≡ fieldIn self.old.bytes.now self.old.at width }
-        ensures place { self.new.at ≡ placeAfter self.old.bytes.now self.old.at width }
+        ensures value { outcome result ≡ field_in self.old.bytes.now self.old.at width }
+        ensures place { self.new.at ≡ place_after self.old.bytes.now self.old.at width }
         ensures bytes { self.new.bytes.now ≡ self.old.bytes.now }
     {
         let at = self.at;

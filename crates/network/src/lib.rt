@@ -9,7 +9,7 @@ mod refusal;
 mod sheet_laws;
 mod sheets;
 
-ghost use Rattle.network.specs.Laws.{Next-is-smallest, Written-reads, Read-writes, Read-well};
+ghost use Rattle.network.specs.Laws.{NextIsSmallest, WrittenReads, ReadWrites, ReadWell};
 
 pub use list_network::ListNetwork;
 pub use lists::{coupled_stations_are_named, faultless_lists_are_well_formed, read_lists};
@@ -24,7 +24,7 @@ pub use sheets::{SheetNetwork, count_couplings, read_sheet, write_sheet};
 
 /// The next coupled station is the smallest one not below the given number.
 pub fn next_is_smallest() -> u8
-    ensures { Next-is-smallest }
+    ensures { NextIsSmallest }
 {
     0
 }
@@ -32,9 +32,9 @@ pub fn next_is_smallest() -> u8
 /// A sheet that is written reads as itself, one that is read is written as the same bytes,
 /// and what is read is a network and one of its orders.
 pub fn sheets_go_round() -> u8
-    ensures written { Written-reads }
-    ensures read { Read-writes }
-    ensures well { Read-well }
+    ensures written { WrittenReads }
+    ensures read { ReadWrites }
+    ensures well { ReadWell }
 {
     0
 }

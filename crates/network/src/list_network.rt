@@ -1,8 +1,8 @@
 //! A network that stands on two neighbour lists, as they were lent.
 //! It searches in the packed names and holds no copy of them.
 ghost use Rattle.std.specs.Prelude.{◌≡◌, ◌+◌, ◌<◌, false, [], ◌∷◌, length, is_some, None};
-ghost use Rattle.network.specs.Refusals.{firstFault};
-ghost use Rattle.network.specs.Lists.{listSize, named_in, listNet, startFault, nameFault, rowsFault, listsFault};
+ghost use Rattle.network.specs.Refusals.{first_fault};
+ghost use Rattle.network.specs.Lists.{list_size, named_in, list_net, start_fault, name_fault, rows_fault, lists_fault};
 ghost use Rattle.network.specs.ListLaws.{list_lawful};
 
 use crate::net::Network;
@@ -12,7 +12,7 @@ use crate::net::Network;
 pub struct ListNetwork<'a> {
     pub(crate) starts: &'a [u32],
     pub(crate) names: &'a [u16],
-    ghost faultless: { is_some (listsFault starts.now names.now) ≡ false },
+    ghost faultless: { is_some (lists_fault starts.now names.now) ≡ false },
 }
 
 static STARTS: [u32; 2] = [0, 0];
@@ -34,9 +34,9 @@ impl<'a> ListNetwork<'a> {
 
 // Whether the list of station `a` names `b`. The names of a list rise, so a search by halves finds it.
 pub(crate) fn is_named(starts: &[u32], names: &[u16], a: u16, b: u16) -> bool
-    requires station { a < listSize starts.now }
-    requires starts { firstFault (startFault starts.now (length names.now)) (length starts.now) ≡ None }
-    requires names { rowsFault starts.now (nameFault starts.now names.now) ≡ None }
+    requires station { a < list_size starts.now }
+    requires starts { first_fault (start_fault starts.now (length names.now)) (length starts.now) ≡ None }
+    requires names { rows_fault starts.now (name_fault starts.now names.now) ≡ None }
     ensures { result ≡ named_in starts.now names.now a b }
 {
     let low = starts[a as usize] as usize;
@@ -45,7 +45,7 @@ pub(crate) fn is_named(starts: &[u32], names: &[u16], a: u16, b: u16) -> bool
 }
 
 impl<'a> Network for ListNetwork<'a> {
-    ghost meaning = { λ network. listNet network.starts.now network.names.now };
+    ghost meaning = { λ network. list_net network.starts.now network.names.now };
 
     ghost lawful = { λ network. list_lawful network.starts.now network.names.now network.faultless };
 

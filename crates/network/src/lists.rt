@@ -1,16 +1,16 @@
 //! Reading neighbour lists into a network place: the checks in their order, then the place.
 //! The names are walked twice: first each by itself, then each against the other station's list.
 ghost use Rattle.std.specs.Prelude.{◌≡◌, ◌+◌, ◌-◌, ◌<◌, ◌≤◌, length, None, MatchResult, OnOk};
-ghost use Rattle.network.specs.Refusals.{outcome, unless, firstFault};
-ghost use Rattle.network.specs.Lists.{listSize, listNet, startsLengthFault, startFits, startFault, nameFits, nameFault, oneSidedFault, rowFault, rowsFault, listsFault};
-ghost use Rattle.network.specs.ListLaws.{Faultless-lists-are-well-formed, Coupled-stations-are-named};
+ghost use Rattle.network.specs.Refusals.{outcome, unless, first_fault};
+ghost use Rattle.network.specs.Lists.{list_size, list_net, starts_length_fault, is_fitting_start, start_fault, is_fitting_name, name_fault, one_sided_fault, row_fault, rows_fault, lists_fault};
+ghost use Rattle.network.specs.ListLaws.{FaultlessListsAreWellFormed, CoupledStationsAreNamed};
 
 use crate::list_network::{ListNetwork, is_named};
 use crate::refusal::Refusal;
 
 // Whether there are starts for 1 to 512 stations.
 fn check_length(starts: &[u32]) -> Result<(), Refusal>
-    ensures answer { outcome result ≡ unless (startsLengthFault starts.now) tt }
+    ensures answer { outcome result ≡ unless (starts_length_fault starts.now) tt }
     ensures range { OnOk result ((2 ≤ length starts.now) × (length starts.now ≤ 513)) }
 {
     let count = starts.len();
@@ -23,7 +23,7 @@ fn check_length(starts: &[u32]) -> Result<(), Refusal>
 // Whether the start at `i` fits the one before it and, at the end, the number of the names.
 fn start_fits(starts: &[u32], count: usize, i: usize) -> bool
     requires { i < length starts.now }
-    ensures { result ≡ startFits starts.now count i }
+    ensures { result ≡ is_fitting_start starts.now count i }
 {
     let start = starts[i];
     let rises = if i == 0 {
@@ -36,7 +36,7 @@ fn start_fits(starts: &[u32], count: usize, i: usize) -> bool
 
 // Goes once through the starts.
 fn check_starts(starts: &[u32], count: usize) -> Result<(), Refusal>
-    ensures { outcome result ≡ unless (firstFault (startFault starts.now count) (length starts.now)) tt }
+    ensures { outcome result ≡ unless (first_fault (start_fault starts.now count) (length starts.now)) tt }
 {
     for i in 0..starts.len() {
         if !start_fits(starts, count, i) {
@@ -49,7 +49,7 @@ fn check_starts(starts: &[u32], count: usize) -> Result<(), Refusal>
 // Whether the name at `k`, in the list of `station` from `low` on, is another station and above the name before it.
 fn name_fits(names: &[u16], size: u16, low: usize, station: u16, k: usize) -> bool
     requires { (low ≤ k) × (k < length names.now) }
-    ensures { result ≡ nameFits names.now size low station k }
+    ensures { result ≡ is_fitting_name names.now size low station k }
 {
     let name = names[k];
     name < size && name != station && (k == low || names[k - 1] < name)
@@ -57,10 +57,10 @@ fn name_fits(names: &[u16], size: u16, low: usize, station: u16, k: usize) -> bo
 
 // Goes once through the names of one station.
 fn check_names_of(starts: &[u32], names: &[u16], station: u16) -> Result<(), Refusal>
-    requires station { station < listSize starts.now }
+    requires station { station < list_size starts.now }
     requires few { length starts.now ≤ 513 }
-    requires starts { firstFault (startFault starts.now (length names.now)) (length starts.now) ≡ None }
-    ensures { outcome result ≡ unless (rowFault starts.now (nameFault starts.now names.now) station) tt }
+    requires starts { first_fault (start_fault starts.now (length names.now)) (length starts.now) ≡ None }
+    ensures { outcome result ≡ unless (row_fault starts.now (name_fault starts.now names.now) station) tt }
 {
     let size = (starts.len() - 1) as u16;
     let low = starts[station as usize] as usize;
@@ -77,8 +77,8 @@ fn check_names_of(starts: &[u32], names: &[u16], station: u16) -> Result<(), Ref
 fn check_names(starts: &[u32], names: &[u16]) -> Result<(), Refusal>
     requires some { 2 ≤ length starts.now }
     requires few { length starts.now ≤ 513 }
-    requires starts { firstFault (startFault starts.now (length names.now)) (length starts.now) ≡ None }
-    ensures { outcome result ≡ unless (rowsFault starts.now (nameFault starts.now names.now)) tt }
+    requires starts { first_fault (start_fault starts.now (length names.now)) (length starts.now) ≡ None }
+    ensures { outcome result ≡ unless (rows_fault starts.now (name_fault starts.now names.now)) tt }
 {
     let size = (starts.len() - 1) as u16;
     for station in 0..size {
@@ -89,10 +89,10 @@ fn check_names(starts: &[u32], names: &[u16]) -> Result<(), Refusal>
 
 // Looks up one station in the list of each station that it names: a search by halves for each name.
 fn check_both_sides_of(starts: &[u32], names: &[u16], namer: u16) -> Result<(), Refusal>
-    requires station { namer < listSize starts.now }
-    requires starts { firstFault (startFault starts.now (length names.now)) (length starts.now) ≡ None }
-    requires names { rowsFault starts.now (nameFault starts.now names.now) ≡ None }
-    ensures { outcome result ≡ unless (rowFault starts.now (oneSidedFault starts.now names.now) namer) tt }
+    requires station { namer < list_size starts.now }
+    requires starts { first_fault (start_fault starts.now (length names.now)) (length starts.now) ≡ None }
+    requires names { rows_fault starts.now (name_fault starts.now names.now) ≡ None }
+    ensures { outcome result ≡ unless (row_fault starts.now (one_sided_fault starts.now names.now) namer) tt }
 {
     let low = starts[namer as usize] as usize;
     let high = starts[namer as usize + 1] as usize;
@@ -108,9 +108,9 @@ fn check_both_sides_of(starts: &[u32], names: &[u16], namer: u16) -> Result<(), 
 fn check_both_sides(starts: &[u32], names: &[u16]) -> Result<(), Refusal>
     requires some { 2 ≤ length starts.now }
     requires few { length starts.now ≤ 513 }
-    requires starts { firstFault (startFault starts.now (length names.now)) (length starts.now) ≡ None }
-    requires names { rowsFault starts.now (nameFault starts.now names.now) ≡ None }
-    ensures { outcome result ≡ unless (rowsFault starts.now (oneSidedFault starts.now names.now)) tt }
+    requires starts { first_fault (start_fault starts.now (length names.now)) (length starts.now) ≡ None }
+    requires names { rows_fault starts.now (name_fault starts.now names.now) ≡ None }
+    ensures { outcome result ≡ unless (rows_fault starts.now (one_sided_fault starts.now names.now)) tt }
 {
     let size = (starts.len() - 1) as u16;
     for namer in 0..size {
@@ -121,7 +121,7 @@ fn check_both_sides(starts: &[u32], names: &[u16]) -> Result<(), Refusal>
 
 // All checks, in their order.
 fn check_lists(starts: &[u32], names: &[u16]) -> Result<(), Refusal>
-    ensures { outcome result ≡ unless (listsFault starts.now names.now) tt }
+    ensures { outcome result ≡ unless (lists_fault starts.now names.now) tt }
 {
     check_length(starts)?;
     check_starts(starts, names.len())?;
@@ -136,9 +136,9 @@ pub fn read_lists<'a>(
     names: &'a [u16],
     place: &mut ListNetwork<'a>,
 ) -> Result<(), Refusal>
-    ensures answer { outcome result ≡ unless (listsFault starts.now names.now) tt }
+    ensures answer { outcome result ≡ unless (lists_fault starts.now names.now) tt }
     ensures place { MatchResult result (λ _. (place.new.starts.now ≡ starts.now) × (place.new.names.now ≡ names.now)) (λ _. place.new ≡ place.old) }
-    ensures meaning { OnOk result (listNet place.new.starts.now place.new.names.now ≡ listNet starts.now names.now) }
+    ensures meaning { OnOk result (list_net place.new.starts.now place.new.names.now ≡ list_net starts.now names.now) }
 {
     check_lists(starts, names)?;
     *place = ListNetwork { starts, names };
@@ -148,14 +148,14 @@ pub fn read_lists<'a>(
 /// Lists without a fault are just the well formed ones: every name is another station, the names of a list rise,
 /// and every coupling is named from both sides.
 pub fn faultless_lists_are_well_formed() -> u8
-    ensures { Faultless-lists-are-well-formed }
+    ensures { FaultlessListsAreWellFormed }
 {
     0
 }
 
 /// In the network of well formed lists two stations are coupled just where the list of the one names the other.
 pub fn coupled_stations_are_named() -> u8
-    ensures { Coupled-stations-are-named }
+    ensures { CoupledStationsAreNamed }
 {
     0
 }

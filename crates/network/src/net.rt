@@ -1,7 +1,7 @@
 //! The three questions that every network answers, by one lawful meaning.
 //! A network that is not shown to answer so cannot be one.
 ghost use Rattle.std.specs.Prelude.{◌≡◌};
-ghost use Rattle.network.specs.Net.{Net, Lawful, nextCoupled};
+ghost use Rattle.network.specs.Net.{Net, Lawful, next_coupled};
 
 /// A network of stations, some pairs of them coupled. Nothing here refuses or alters anything.
 pub trait Network {
@@ -19,7 +19,7 @@ pub trait Network {
 
     /// The smallest station not below `from` that is coupled with `station`. It asks at most once for each station.
     fn next(&self, station: u16, from: u16) -> Option<u16>
-        ensures { result ≡ nextCoupled (meaning self.now) station from }
+        ensures { result ≡ next_coupled (meaning self.now) station from }
     {
         let size = self.size();
         let mut t = from;

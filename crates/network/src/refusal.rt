@@ -1,7 +1,7 @@
 //! Why a call of this system was refused, and where: one variant for each refusal,
 //! carrying its place wherever the place varies.
 ghost use Rattle.std.specs.Prelude.{◌≡◌};
-ghost use Rattle.network.specs.Refusals.{told, Told-apart};
+ghost use Rattle.network.specs.Refusals.{told, ToldApart};
 
 /// A refusal. Its number and its place are those of docs/REFUSALS.md.
 #[derive(Clone, Copy, PartialEq, Eq, Debug, Drop)]
@@ -108,7 +108,7 @@ impl Refusal {
 
 /// Number and place tell refusals apart.
 pub fn refusals_are_told_apart() -> u8
-    ensures { Told-apart }
+    ensures { ToldApart }
 {
     0
 }

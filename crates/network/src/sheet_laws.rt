@@ -1,53 +1,53 @@
 //! What holds of sheets, networks and orders together: each function stands for the laws that its contract states.
 //! They compute nothing; a caller cites them for their facts.
-ghost use Rattle.network.specs.SheetLaws.{Order-is, Order-names-all, Width-is-smallest};
-ghost use Rattle.network.specs.SheetLaws.{Network-sheet-well, Network-returns, Bytes-tell-apart};
-ghost use Rattle.network.specs.SheetLaws.{Same-couplings-same-meaning};
-ghost use Rattle.network.specs.SheetLaws.{Read-lawful, Read-ordered, Read-same-sheet, Read-same-bytes};
+ghost use Rattle.network.specs.SheetLaws.{OrderIs, OrderNamesAll, WidthIsSmallest};
+ghost use Rattle.network.specs.SheetLaws.{NetworkSheetWell, NetworkReturns, BytesTellApart};
+ghost use Rattle.network.specs.SheetLaws.{SameCouplingsSameMeaning};
+ghost use Rattle.network.specs.SheetLaws.{ReadLawful, ReadOrdered, ReadSameSheet, ReadSameBytes};
 
 /// A list is accepted as an order of a network's stations exactly if it is one, and then it names every station.
 pub fn accepted_list_is_order() -> u8
-    ensures exact { Order-is }
-    ensures all { Order-names-all }
+    ensures exact { OrderIs }
+    ensures all { OrderNamesAll }
 {
     0
 }
 
 /// The width of a station's field in a sheet is the smallest that serves.
 pub fn width_is_smallest() -> u8
-    ensures { Width-is-smallest }
+    ensures { WidthIsSmallest }
 {
     0
 }
 
 /// A network and one of its orders that are written and read again come back the same.
 pub fn written_network_returns() -> u8
-    ensures well { Network-sheet-well }
-    ensures same { Network-returns }
+    ensures well { NetworkSheetWell }
+    ensures same { NetworkReturns }
 {
     0
 }
 
 /// No two networks, and no two orders of one, are written as the same bytes.
 pub fn bytes_tell_networks_apart() -> u8
-    ensures { Bytes-tell-apart }
+    ensures { BytesTellApart }
 {
     0
 }
 
 /// A sheet that is read is that of a lawful network and one of its orders, and these are written as the same bytes.
 pub fn read_network_is_written_the_same() -> u8
-    ensures lawful { Read-lawful }
-    ensures ordered { Read-ordered }
-    ensures sheet { Read-same-sheet }
-    ensures bytes { Read-same-bytes }
+    ensures lawful { ReadLawful }
+    ensures ordered { ReadOrdered }
+    ensures sheet { ReadSameSheet }
+    ensures bytes { ReadSameBytes }
 {
     0
 }
 
 /// A sheet network and a list network that were read from the same couplings have equal meanings.
 pub fn same_couplings_same_meaning() -> u8
-    ensures { Same-couplings-same-meaning }
+    ensures { SameCouplingsSameMeaning }
 {
     0
 }

@@ -5,12 +5,12 @@ use Rattle.std.proofs.lemmas.Bool.{and_from, and_right, cases_eq, lt-ltb}
 use Rattle.std.proofs.lemmas.Bool.Decides.{nat_tests}
 use Rattle.network.specs.Bits.{count_to}
 use Rattle.network.specs.Laws.{FirstIs}
-use Rattle.network.proofs.Bits.{countTo-add, countTo-same}
+use Rattle.network.proofs.Bits.{count_to-add, count_to-same}
 use Rattle.elimination.specs.Graphs.{Graph}
 use Rattle.elimination.specs.Words.{between}
 use Rattle.elimination.proofs.RowTests.{is-next}
-use Rattle.plan_parts.specs.Layout.{inColumn, rank, start, places, cell, later}
-use Rattle.plan_parts.specs.Reserves.{Symmetric, Below, hasPlace, nextInColumn}
+use Rattle.plan_parts.specs.Layout.{in_column, rank, start, places, cell, later}
+use Rattle.plan_parts.specs.Reserves.{Symmetric, Below, has_place, next_of_column}
 use Rattle.plan_parts.proofs.Numbering.{rank-later, start-mono, start-suc, some-cell}
 
 -- ---- a rank is one count over a row
@@ -28,9 +28,9 @@ count_none p (suc n) f = let ih = count_none p n (λ k h. f k (omega arith)) in 
 counted : (F : Graph) (j i : ℕ) → Symmetric F → i ≤ 512 → count_to (between F j (j + 1) i) 512 ≡ later F j i
 counted F j i s h =
     let e : i + (512 - i) ≡ 512 = omega arith in
-    let parts = countTo-add (between F j (j + 1) i) i (512 - i) in
+    let parts = count_to-add (between F j (j + 1) i) i (512 - i) in
     let high = count_none (λ k. between F j (j + 1) i (i + k)) (512 - i) (λ k l. past k) in
-    let low = countTo-same (between F j (j + 1) i) (λ x. ltb j x && F x j) i (λ k l. within k l) in
+    let low = count_to-same (between F j (j + 1) i) (λ x. ltb j x && F x j) i (λ k l. within k l) in
     sym (ap (count_to (between F j (j + 1) i)) e) ∙ parts ∙ omega (arith, later-count F j i)
   where
     past : (k : ℕ) → between F j (j + 1) i (i + k) ≡ false
@@ -96,16 +96,16 @@ begins-more F n j starts count s lt few len e b k h = ⊎_elim here there (cases
 
 -- ---- which rows a column has
 
-pub column-own : (F : Graph) (j : ℕ) → inColumn F j j ≡ true
-unfolding inColumn
+pub column-own : (F : Graph) (j : ℕ) → in_column F j j ≡ true
+unfolding in_column
 column-own F j = grind (arith, nat_tests)
 
-pub column-above : (F : Graph) (j i : ℕ) → i < j → inColumn F j i ≡ false
-unfolding inColumn
+pub column-above : (F : Graph) (j i : ℕ) → i < j → in_column F j i ≡ false
+unfolding in_column
 column-above F j i lt = grind (arith, nat_tests)
 
-pub column-later : (F : Graph) (j i : ℕ) → j < i → inColumn F j i ≡ F i j
-unfolding inColumn
+pub column-later : (F : Graph) (j i : ℕ) → j < i → in_column F j i ≡ F i j
+unfolding in_column
 column-later F j i lt = grind (arith, nat_tests)
 
 pub cell-own : (F : Graph) (n j : ℕ) → j < n → cell F n j j ≡ Some (start F n j)
@@ -119,24 +119,24 @@ cell-later F n i j s lt h few e =
 -- ---- the next row of a column
 
 module _ (F : Graph) (n j from : ℕ) (few : n ≤ 512) where
-  pub next-outside : n ≤ j → FirstIs (hasPlace F n j) from 512 None
-  unfolding inColumn
+  pub next-outside : n ≤ j → FirstIs (has_place F n j) from 512 None
+  unfolding in_column
   next-outside le i l h = grind (arith, nat_tests)
 
-  pub next-own : j < n → from ≤ j → FirstIs (hasPlace F n j) from 512 (Some j)
-  next-own lt le = (le, omega arith, and_from (ltb j n) (inColumn F j j) (lt-ltb j n lt) (column-own F j), λ i l h. and_right (ltb i n) (inColumn F j i) (column-above F j i h))
+  pub next-own : j < n → from ≤ j → FirstIs (has_place F n j) from 512 (Some j)
+  next-own lt le = (le, omega arith, and_from (ltb j n) (in_column F j j) (lt-ltb j n lt) (column-own F j), λ i l h. and_right (ltb i n) (in_column F j i) (column-above F j i h))
 
-  pub next-later : Symmetric F → Below F n → j < from → (o : Option ℕ) → FirstIs (F j) from 512 o → FirstIs (hasPlace F n j) from 512 o
-  next-later s below lt o f = elim o as (λ (x : Option ℕ). FirstIs (F j) from 512 x → FirstIs (hasPlace F n j) from 512 x) [
+  pub next-later : Symmetric F → Below F n → j < from → (o : Option ℕ) → FirstIs (F j) from 512 o → FirstIs (has_place F n j) from 512 o
+  next-later s below lt o f = elim o as (λ (x : Option ℕ). FirstIs (F j) from 512 x → FirstIs (has_place F n j) from 512 x) [
     | Some t ↦ λ g. (g.0, g.1, here t g.0 g.2, λ i l h. none i l (g.3 i l h))
     | None ↦ λ g i l h. none i l (g i l h)
   ] f
     where
-      here : (t : ℕ) → from ≤ t → F j t ≡ true → hasPlace F n j t ≡ true
-      here t l e = and_from (ltb t n) (inColumn F j t) (lt-ltb t n (below j t e).1) (column-later F j t (omega arith) ∙ s t j ∙ e)
+      here : (t : ℕ) → from ≤ t → F j t ≡ true → has_place F n j t ≡ true
+      here t l e = and_from (ltb t n) (in_column F j t) (lt-ltb t n (below j t e).1) (column-later F j t (omega arith) ∙ s t j ∙ e)
 
-      none : (i : ℕ) → from ≤ i → F j i ≡ false → hasPlace F n j i ≡ false
-      none i l e = and_right (ltb i n) (inColumn F j i) (column-later F j i (omega arith) ∙ s i j ∙ e)
+      none : (i : ℕ) → from ≤ i → F j i ≡ false → has_place F n j i ≡ false
+      none i l e = and_right (ltb i n) (in_column F j i) (column-later F j i (omega arith) ∙ s i j ∙ e)
 
-  pub first_next : (o : Option ℕ) → FirstIs (hasPlace F n j) from 512 o → o ≡ nextInColumn F n j from
-  first_next o f = is-next (hasPlace F n) j from o f
+  pub first_next : (o : Option ℕ) → FirstIs (has_place F n j) from 512 o → o ≡ next_of_column F n j from
+  first_next o f = is-next (has_place F n) j from o f

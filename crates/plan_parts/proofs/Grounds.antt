@@ -6,7 +6,7 @@ use Rattle.elimination.specs.Orders.{In, Distinct}
 use Rattle.elimination.specs.Elimination.{after, filled}
 use Rattle.elimination.proofs.Relations.{Symmetric, Within, Closed}
 use Rattle.elimination.proofs.Least.{after-cases, within-after, left_in, filled-symmetric}
-use Rattle.elimination.proofs.Listing.{getD-in, index_of, same_place}
+use Rattle.elimination.proofs.Listing.{get_or-in, index_of, same_place}
 
 -- u comes before a
 abbrev Before : ℕ → ℕ → List ℕ → Type 0
@@ -66,7 +66,7 @@ before-lt (x ∷ xs) zero zero d hk hi (inr b) = absurd (d.0 (before-in xs x x b
 before-lt (x ∷ xs) zero (suc i) d hk hi b = omega arith
 before-lt (x ∷ xs) (suc k) zero d hk hi (inl p) = absurd (d.0 p.1)
 before-lt (x ∷ xs) (suc k) zero d hk hi (inr b) = absurd (d.0 (before-in xs (get_or xs k 0) x b))
-before-lt (x ∷ xs) (suc k) (suc i) d hk hi (inl p) = absurd (d.0 (rw p.0 at (getD-in xs k (omega arith))))
+before-lt (x ∷ xs) (suc k) (suc i) d hk hi (inl p) = absurd (d.0 (rw p.0 at (get_or-in xs k (omega arith))))
 before-lt (x ∷ xs) (suc k) (suc i) d hk hi (inr b) = let r = before-lt xs k i d.1 (omega arith) (omega arith) b in omega (arith, r)
 
 pub grounded : (C : Graph) (xs : List ℕ) → Symmetric C → Distinct xs → Within C xs → (i j : ℕ) → i < length xs → j < i
@@ -90,8 +90,8 @@ grounded C xs s d w i j li ji h =
           rw e (filled-symmetric C xs s (get_or xs j 0) g.by ∙ g.right),
         )
 
-pub getD-apart : (xs : List ℕ) (i j : ℕ) → Distinct xs → i < length xs → j < length xs → i ≢ j → get_or xs i 0 ≢ get_or xs j 0
-getD-apart xs i j d hi hj n e = n (same_place xs d i j hi hj e)
+pub get_or-apart : (xs : List ℕ) (i j : ℕ) → Distinct xs → i < length xs → j < length xs → i ≢ j → get_or xs i 0 ≢ get_or xs j 0
+get_or-apart xs i j d hi hj n e = n (same_place xs d i j hi hj e)
 
 -- what an order closes, by positions
 pub closed-positions : (H : Graph) (xs : List ℕ) → Distinct xs → Closed H xs → (i j k : ℕ) → i < length xs → j < length xs → i ≢ j → k < i → k < j
@@ -100,6 +100,6 @@ closed-positions H [] d c i j k hi hj n ki kj l r = absurd (omega arith)
 closed-positions H (x ∷ xs) d c zero j k hi hj n ki kj l r = absurd (omega arith)
 closed-positions H (x ∷ xs) d c (suc i) zero k hi hj n ki kj l r = absurd (omega arith)
 closed-positions H (x ∷ xs) d c (suc i) (suc j) zero hi hj n ki kj l r =
-    c.0 (get_or xs i 0) (get_or xs j 0) (getD-in xs i (omega arith)) (getD-in xs j (omega arith)) (getD-apart xs i j d.1 (omega arith) (omega arith) (λ q. n (ap suc q))) l r
+    c.0 (get_or xs i 0) (get_or xs j 0) (get_or-in xs i (omega arith)) (get_or-in xs j (omega arith)) (get_or-apart xs i j d.1 (omega arith) (omega arith) (λ q. n (ap suc q))) l r
 closed-positions H (x ∷ xs) d c (suc i) (suc j) (suc k) hi hj n ki kj l r =
     closed-positions H xs d.1 c.1 i j k (omega arith) (omega arith) (λ q. n (ap suc q)) (omega arith) (omega arith) l r

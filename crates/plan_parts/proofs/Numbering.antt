@@ -3,7 +3,7 @@ use Rattle.std.proofs.Common.{◌≡◌, ℕ, zero, suc, ◌+◌, ◌-◌, ◌<�
 use Rattle.std.proofs.lemmas.Bool.{cases_Bool, cases_lt, cases_eq, cases_order, and_parts, and_from, and_right, and_left, le-ltb, ltb-true, lt-ltb, eq-eqb, both_ways}
 use Rattle.std.proofs.lemmas.Bool.Decides.{nat_tests}
 use Rattle.elimination.specs.Graphs.{Graph}
-use Rattle.plan_parts.specs.Layout.{inColumn, rank, start, places, cell, later, pairs, Numbered}
+use Rattle.plan_parts.specs.Layout.{in_column, rank, start, places, cell, later, pairs, Numbered}
 
 rank_mono : (F : Graph) (j a b : ℕ) → a ≤ b → rank F j a ≤ rank F j b
 unfolding rank
@@ -13,7 +13,7 @@ rank_mono F j a (suc b) h = elim (cases_eq a (suc b)) [
   | inr d ↦ (let h' : a ≤ b = omega (arith, d) in omega (arith, rank_mono F j a b h'))
 ]
 
-rank-suc : (F : Graph) (j i : ℕ) → inColumn F j i ≡ true → rank F j (suc i) ≡ rank F j i + 1
+rank-suc : (F : Graph) (j i : ℕ) → in_column F j i ≡ true → rank F j (suc i) ≡ rank F j i + 1
 unfolding rank
 rank-suc F j i h = simp h
 
@@ -21,22 +21,22 @@ pub rank-none : (F : Graph) (j : ℕ) → rank F j 0 ≡ 0
 unfolding rank
 rank-none F j = refl
 
-pub rank-in : (F : Graph) (j i : ℕ) → inColumn F j i ≡ true → rank F j (i + 1) ≡ rank F j i + 1
+pub rank-in : (F : Graph) (j i : ℕ) → in_column F j i ≡ true → rank F j (i + 1) ≡ rank F j i + 1
 rank-in F j i h = rw (add-one i) (rank-suc F j i h)
 
-pub rank-out : (F : Graph) (j i : ℕ) → inColumn F j i ≡ false → rank F j (i + 1) ≡ rank F j i
+pub rank-out : (F : Graph) (j i : ℕ) → in_column F j i ≡ false → rank F j (i + 1) ≡ rank F j i
 unfolding rank
 rank-out F j i h = rw add-one (simp h (add-zero _))
 
-pub no_cell : (F : Graph) (n i j : ℕ) → inColumn F j i ≡ false → cell F n i j ≡ None
+pub no_cell : (F : Graph) (n i j : ℕ) → in_column F j i ≡ false → cell F n i j ≡ None
 unfolding cell
-no_cell F n i j h = simp (and_right (ltb i n) (inColumn F j i) h)
+no_cell F n i j h = simp (and_right (ltb i n) (in_column F j i) h)
 
 pub cell_out : (F : Graph) (n i j : ℕ) → n ≤ i → cell F n i j ≡ None
 unfolding cell
-cell_out F n i j h = simp (and_left (ltb i n) (inColumn F j i) (le-ltb i n h))
+cell_out F n i j h = simp (and_left (ltb i n) (in_column F j i) (le-ltb i n h))
 
-pub rank_lt : (F : Graph) (j i n : ℕ) → inColumn F j i ≡ true → i < n → rank F j i < rank F j n
+pub rank_lt : (F : Graph) (j i n : ℕ) → in_column F j i ≡ true → i < n → rank F j i < rank F j n
 rank_lt F j i n h lt = omega (arith, rank-suc F j i h, rank_mono F j (suc i) n lt)
 
 pub start-mono : (F : Graph) (n a b : ℕ) → a ≤ b → start F n a ≤ start F n b
@@ -52,25 +52,25 @@ unfolding start
 start-suc F n j = refl
 
 -- a row does not lie above its column
-pub column-le : (F : Graph) (j i : ℕ) → inColumn F j i ≡ true → j ≤ i
-unfolding inColumn
+pub column-le : (F : Graph) (j i : ℕ) → in_column F j i ≡ true → j ≤ i
+unfolding in_column
 column-le F j i h = grind (arith, nat_tests)
 
 pub record Spot (F : Graph) (n i j p : ℕ) : Type 0 where
   pub within : i < n
-  pub here : inColumn F j i ≡ true
+  pub here : in_column F j i ≡ true
   pub number : p ≡ start F n j + rank F j i
 
 pub cell-some : (F : Graph) (n i j p : ℕ) → cell F n i j ≡ Some p → Spot F n i j p
 unfolding cell
-cell-some F n i j p h = elim (cases_Bool (ltb i n && inColumn F j i)) [
-  | inl t ↦ (let q = and_parts (ltb i n) (inColumn F j i) t in
+cell-some F n i j p h = elim (cases_Bool (ltb i n && in_column F j i)) [
+  | inl t ↦ (let q = and_parts (ltb i n) (in_column F j i) t in
       let g : Some (start F n j + rank F j i) ≡ Some p = simp t at h in
       record { within = ltb-true i n q.0; here = q.1; number = cc })
   | inr f ↦ (let g : None ≡ Some p = simp f at h in let z : ◌≡◌ {A = ℕ} 0 1 = cc in absurd (omega arith))
 ]
 
-pub some-cell : (F : Graph) (n i j : ℕ) → i < n → inColumn F j i ≡ true → cell F n i j ≡ Some (start F n j + rank F j i)
+pub some-cell : (F : Graph) (n i j : ℕ) → i < n → in_column F j i ≡ true → cell F n i j ≡ Some (start F n j + rank F j i)
 unfolding cell
 some-cell F n i j lt h = simp (lt-ltb i n lt, h)
 
@@ -112,12 +112,12 @@ cell-once F n i j a b p h g = (row (cell-some F n i j p h) (cell-some F n a b p 
         ]
 
 -- each number below a rank is the rank of a member
-rank-onto : (F : Graph) (j m q : ℕ) → q < rank F j m → (i : ℕ) × (i < m) × (inColumn F j i ≡ true) × (rank F j i ≡ q)
+rank-onto : (F : Graph) (j m q : ℕ) → q < rank F j m → (i : ℕ) × (i < m) × (in_column F j i ≡ true) × (rank F j i ≡ q)
 unfolding rank
 rank-onto F j zero q h = absurd (omega arith)
 rank-onto F j (suc m) q h = elim (cases_lt q (rank F j m)) [
   | inl lt ↦ (let r = rank-onto F j m q lt in (r.0, omega (arith, r.1), r.2, r.3))
-  | inr ge ↦ elim (cases_Bool (inColumn F j m)) [
+  | inr ge ↦ elim (cases_Bool (in_column F j m)) [
     | inl t ↦ (let h' : q < rank F j m + 1 = simp t at h in (m, omega arith, t, omega arith))
     | inr f ↦ (let h' : q < rank F j m + 0 = simp f at h in absurd (omega arith))
   ]
@@ -143,7 +143,7 @@ cell-all F n p h =
 
 -- a column has its own position, and its later ones
 pub rank-later : (F : Graph) (j i : ℕ) → rank F j i ≡ cond (ltb j i) 1 0 + later F j i
-unfolding rank later inColumn
+unfolding rank later in_column
 rank-later F j zero = grind (arith, nat_tests)
 rank-later F j (suc i) = let h = rank-later F j i in grind (arith, nat_tests)
 

@@ -5,7 +5,7 @@ use Rattle.std.proofs.lemmas.List.{drop_at, drop-set-lt, ext_get_or, get_or_appe
 use Rattle.std.proofs.lemmas.Bool.{and_parts, both_ways, cases_eq, eq-eqb}
 use Rattle.std.proofs.lemmas.Bool.Decides.{nat_tests}
 use Rattle.network.specs.Bits.{count_to}
-use Rattle.network.proofs.Bits.{countTo-same}
+use Rattle.network.proofs.Bits.{count_to-same}
 use Rattle.elimination.specs.Graphs.{Graph}
 use Rattle.plan_parts.specs.Boards.{cleared, found}
 use Rattle.plan_parts.proofs.Reaching.{PathTo, Reached, reached-more, never-reached}
@@ -33,7 +33,7 @@ one_fewer p q (suc n) s same h e g = ⊎_elim last (λ (ne : s ≡ n → ⊥). b
     last i =
         let x : p n ≡ false = ap p (sym i) ∙ e in
         let y : q n ≡ true = ap q (sym i) ∙ g in
-        let z = countTo-same p q n (λ k l. same k (omega arith)) in
+        let z = count_to-same p q n (λ k l. same k (omega arith)) in
         simp (x, y) (omega arith)
 
     before : (s ≡ n → ⊥) → count_to p n < count_to q n → count_to p n + cond (p n) 1 0 < count_to q n + cond (q n) 1 0

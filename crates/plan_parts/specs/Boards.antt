@@ -22,5 +22,5 @@ abbrev pub unseen : Graph → List ℕ → ℕ → ℕ → List ℕ → ℕ → 
 unseen G xs position s board k = G s k && (nat_lt (position_of xs k) position && slice_index board k == 0)
 
 -- the mark of k once they are
-abbrev pub markAfter : Graph → List ℕ → ℕ → ℕ → List ℕ → ℕ → ℕ
-markAfter G xs position s board k = cond (unseen G xs position s board k) 1 (slice_index board k)
+abbrev pub mark_after : Graph → List ℕ → ℕ → ℕ → List ℕ → ℕ → ℕ
+mark_after G xs position s board k = cond (unseen G xs position s board k) 1 (slice_index board k)

@@ -4,13 +4,13 @@ use Rattle.std.specs.Prelude.{◌≡◌, ℕ, zero, suc, ◌+◌, ◌<◌, ◌�
 use Rattle.elimination.specs.Graphs.{Graph}
 
 -- the column j has a place for the position i
-unfoldable pub inColumn : Graph → ℕ → ℕ → Bool
-inColumn F j i = i == j || (nat_lt j i && F i j)
+unfoldable pub in_column : Graph → ℕ → ℕ → Bool
+in_column F j i = i == j || (nat_lt j i && F i j)
 
 -- how many positions below i have a place in the column j
 unfoldable pub rank : Graph → ℕ → ℕ → ℕ
 rank F j zero = 0
-rank F j (suc i) = rank F j i + cond (inColumn F j i) 1 0
+rank F j (suc i) = rank F j i + cond (in_column F j i) 1 0
 
 -- how many places the columns before j have
 unfoldable pub start : Graph → ℕ → ℕ → ℕ
@@ -23,11 +23,11 @@ places F n = start F n n
 
 -- the number of the place in row i and column j, if there is one; no row lies above its column
 unfoldable pub cell : Graph → ℕ → ℕ → ℕ → Option ℕ
-cell F n i j = cond (nat_lt i n && inColumn F j i) (Some (start F n j + rank F j i)) None
+cell F n i j = cond (nat_lt i n && in_column F j i) (Some (start F n j + rank F j i)) None
 
 -- the place of two positions, whichever comes first
-unfoldable pub placeOf : Graph → ℕ → ℕ → ℕ → Option ℕ
-placeOf F n i j = cell F n (max i j) (min i j)
+unfoldable pub place_for : Graph → ℕ → ℕ → ℕ → Option ℕ
+place_for F n i j = cell F n (max i j) (min i j)
 
 -- how many of the positions below i are later than j and form a filled pair with it
 unfoldable pub later : Graph → ℕ → ℕ → ℕ
@@ -47,8 +47,8 @@ pub record Corner (F : Graph) (n : ℕ) : Type 0 where
   pub row : i < n
   pub column : j < n
   pub apart : i ≢ j
-  pub after-row : k < i
-  pub after-column : k < j
+  pub after_row : k < i
+  pub after_column : k < j
   pub left : F i k ≡ true
   pub right : F j k ≡ true
 
@@ -64,5 +64,5 @@ pub record Numbered (F : Graph) (n : ℕ) : Type 0 where
   pub count : places F n ≡ n + pairs F n n
 
 -- the places of every reserve are numbered from 0 without gap and without repeat
-abbrev pub No-gap : Type 0
-No-gap = (F : Graph) (n : ℕ) → Numbered F n
+abbrev pub NoGap : Type 0
+NoGap = (F : Graph) (n : ℕ) → Numbered F n

@@ -10,10 +10,10 @@ use Rattle.plan_parts.specs.PlanStates.{Asked, PlanHistory, PlanState}
 -- since, every order of the network whose fill lies within that of xs has the same fill
 pub record FillKept (net : Net) (given : List ℕ) (tight : Bool) (xs : List ℕ) : Type 0 where
   pub order : Order net.size xs
-  pub given-order : Order net.size given
+  pub given_order : Order net.size given
   pub within : Sub (fill net.coupled xs) (fill net.coupled given)
   pub least : tight ≡ true → (ys : List ℕ) → Order net.size ys → Sub (fill net.coupled ys) (fill net.coupled xs) → fill net.coupled ys ≡ fill net.coupled xs
 
 -- after every history, the plan's fill lies within the fill of the order last given, and is the least within itself once tightened
-abbrev pub Fill-within-given-and-least-once-tightened : Type 0
-Fill-within-given-and-least-once-tightened = (calls : List Asked) (given : List ℕ) (tight : Bool) (s : PlanState) → PlanHistory calls given tight s → FillKept s.net given tight s.order
+abbrev pub FillWithinGivenAndLeastOnceTightened : Type 0
+FillWithinGivenAndLeastOnceTightened = (calls : List Asked) (given : List ℕ) (tight : Bool) (s : PlanState) → PlanHistory calls given tight s → FillKept s.net given tight s.order

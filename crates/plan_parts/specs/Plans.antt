@@ -8,5 +8,5 @@ abbrev pub FilledPairs : Graph → Graph → List ℕ → Type 0
 FilledPairs pairs couplings order = (a b : ℕ) → pairs a b ≡ filled couplings order a b
 
 -- the pairs of G that a forms with stations below b
-abbrev pub pairsBelow : Graph → ℕ → ℕ → Graph
-pairsBelow G a b x y = G x y && ((x == a && nat_lt y b) || (y == a && nat_lt x b))
+abbrev pub pairs_below : Graph → ℕ → ℕ → Graph
+pairs_below G a b x y = G x y && ((x == a && nat_lt y b) || (y == a && nat_lt x b))

@@ -5,12 +5,12 @@ use Rattle.elimination.specs.View.{graph, listed}
 use Rattle.plan_parts.specs.declared.reserve.Reserve.{Reserve}
 
 -- its filled pairs, by positions in its order
-abbrev pub filledIn : Reserve → Graph
-filledIn r = graph r.pairs
+abbrev pub filled_in : Reserve → Graph
+filled_in r = graph r.pairs
 
 -- how many stations it has
-abbrev pub sizeIn : Reserve → ℕ
-sizeIn r = r.order.size
+abbrev pub size_in : Reserve → ℕ
+size_in r = r.order.size
 
 -- its order
 abbrev pub order_in : Reserve → List ℕ

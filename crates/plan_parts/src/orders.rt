@@ -4,7 +4,7 @@ ghost use Rattle.std.specs.Prelude.{◌≡◌, ◌<◌, IfOk, Ok, slice_index};
 ghost use Rattle.network.specs.Refusals.{outcome};
 ghost use Rattle.elimination.specs.Orders.{position_of};
 ghost use Rattle.elimination.specs.View.{listed};
-ghost use Rattle.plan_parts.specs.OrderLists.{orderWritten, room_for};
+ghost use Rattle.plan_parts.specs.OrderLists.{order_written, room_for};
 ghost use Rattle.plan_parts.specs.Reserves.{known};
 
 use elimination::EliminationOrder;
@@ -36,7 +36,7 @@ pub(crate) fn station_in(order: &EliminationOrder, position: u16) -> Result<u16,
 /// Writes the order to the front of a list; one that is too short stays as it was. One step for each station.
 pub(crate) fn write_order(order: &EliminationOrder, out: &mut [u16]) -> Result<(), Refusal>
     ensures value { outcome result ≡ room_for order.now.size out.old }
-    ensures written { out.new ≡ orderWritten order.now.size (listed order.now) out.old }
+    ensures written { out.new ≡ order_written order.now.size (listed order.now) out.old }
 {
     let size = order.size();
     if out.len() < size as usize {

@@ -5,7 +5,7 @@ ghost use Rattle.network.specs.Laws.{FirstIs};
 ghost use Rattle.elimination.specs.Elimination.{Joined};
 ghost use Rattle.elimination.specs.Graphs.{Simple};
 ghost use Rattle.elimination.specs.View.{graph, listed};
-ghost use Rattle.plan_parts.specs.Boards.{cleared, found, markAfter, taken};
+ghost use Rattle.plan_parts.specs.Boards.{cleared, found, mark_after, taken};
 
 use elimination::{EliminationOrder, PairSet};
 
@@ -72,7 +72,7 @@ fn find_neighbours(
     requires simple { Simple order.now.size (graph couplings.now) }
     requires room { order.now.size ≤ length board.old }
     ensures length { length board.new ≡ length board.old }
-    ensures marks { (k : ℕ) → slice_index board.new k ≡ markAfter (graph couplings.now) (listed order.now) position station board.old k }
+    ensures marks { (k : ℕ) → slice_index board.new k ≡ mark_after (graph couplings.now) (listed order.now) position station board.old k }
 {
     let mut from = 0;
     while let Some(k) = couplings.next(station, from) {

@@ -4,17 +4,17 @@ use Rattle.std.specs.List.{slice_get}
 use Rattle.std.proofs.lemmas.Bool.{cases_Bool, cases_eq, eq-eqb, ne_eqb, ltb-true, lt-ltb, le-ltb, both_ways}
 use Rattle.std.proofs.lemmas.Bool.Decides.{nat_tests}
 use Rattle.elimination.specs.Graphs.{Graph}
-use Rattle.plan_parts.specs.Layout.{places, placeOf, cell, Closed}
+use Rattle.plan_parts.specs.Layout.{places, place_for, cell, Closed}
 use Rattle.network.specs.Refusals.{Fault, at}
-use Rattle.plan_parts.specs.Reserves.{known, placeOfStations}
+use Rattle.plan_parts.specs.Reserves.{known, place_of_stations}
 use Rattle.plan_parts.proofs.Numbering.{cell_below}
 use Rattle.run_parts.specs.Kinds.{Kind}
-use Rattle.run_parts.specs.Square.{Square, pivot, pivotal, single, withEntry, beyond}
-use Rattle.run_parts.specs.Tables.{squareOf, entry_at, Room, Within}
+use Rattle.run_parts.specs.Square.{Square, pivot, pivotal, single, with_entry, beyond}
+use Rattle.run_parts.specs.Tables.{square_of, entry_at, Room, Within}
 use Rattle.run_parts.specs.Parts.{Pivoted}
-use Rattle.run_parts.specs.Outcomes.{roomy, checkedPlace, putOutcome, pivotOutcome, stepOutcome}
-use Rattle.run_parts.specs.Laws.{Answers-are-those-of-the-square}
-use Rattle.run_parts.specs.Histories.{RunHistory, Agrees, row_of, columnOf}
+use Rattle.run_parts.specs.Outcomes.{roomy, checked_place_of, put_outcome, pivot_outcome, step_outcome}
+use Rattle.run_parts.specs.Laws.{AnswersAreThoseOfTheSquare}
+use Rattle.run_parts.specs.Histories.{RunHistory, Agrees, row_of, column_of}
 use Rattle.run_parts.specs.Histories.Stage.{loading, running}
 use Rattle.run_parts.specs.Histories.RunHistory.{put, stepped}
 use Rattle.run_parts.proofs.Parts.{part-like, set-square, square-some, square-none, nth-some, cell-within}
@@ -22,10 +22,10 @@ use Rattle.run_parts.proofs.Histories.{only-places}
 
 module _ {E : Type 0} (F : Graph) (n : ℕ) (es : List E) (ms : List ℕ) (sq : Square E) where
   -- tables that hold a square, which holds entries only at places, are that square
-  pub square-agrees : ((i j : ℕ) → is_some (sq i j) ≡ true → is_some (cell F n i j) ≡ true) → Agrees F n es ms sq → (i j : ℕ) → squareOf F n es ms i j ≡ sq i j
+  pub square-agrees : ((i j : ℕ) → is_some (sq i j) ≡ true → is_some (cell F n i j) ≡ true) → Agrees F n es ms sq → (i j : ℕ) → square_of F n es ms i j ≡ sq i j
   square-agrees within agrees i j = at (cell F n i j) refl (sq i j) refl
     where
-      at : (o : Option ℕ) → cell F n i j ≡ o → (s : Option E) → sq i j ≡ s → squareOf F n es ms i j ≡ sq i j
+      at : (o : Option ℕ) → cell F n i j ≡ o → (s : Option E) → sq i j ≡ s → square_of F n es ms i j ≡ sq i j
       at None here None h = square-none F n i j es ms here ∙ sym h
       at None here (Some e) h = absurd (both_ways (is_some (cell F n i j)) (ap is_some here) (within i j (ap is_some h)))
       at (Some p) here None h = square-some F n i j es ms p here ∙ simp (eq-eqb _ _ (agrees.marked i j p here h)) (sym h)
@@ -35,7 +35,7 @@ module _ {E : Type 0} (F : Graph) (n : ℕ) (es : List E) (ms : List ℕ) (sq : 
       ]
 
   -- and back, where the tables have room
-  pub agrees-square : Room F n es ms → ((i j : ℕ) → squareOf F n es ms i j ≡ sq i j) → Agrees F n es ms sq
+  pub agrees-square : Room F n es ms → ((i j : ℕ) → square_of F n es ms i j ≡ sq i j) → Agrees F n es ms sq
   agrees-square room h = record {
     unmarked = λ i j p here z. sym (at i j p here) ∙ simp (eq-eqb _ _ z);
     marked = λ i j p here none. elim (cases_eq (get_or ms p 0) 0) [
@@ -59,40 +59,40 @@ module _ {E : Type 0} (F : Graph) (n : ℕ) (es : List E) (ms : List ℕ) (sq : 
       at i j p here = sym (square-some F n i j es ms p here) ∙ h i j
 
 module _ {E : Type 0} (K : Kind E) (F : Graph) (n : ℕ) (xs : List ℕ) (closed : Closed F n) (es : List E) (ms : List ℕ) (room : Room F n es ms) (es' : List E) (ms' : List ℕ) (sq : Square E) (P : Graph) where
-  pub put-goes : (a b p : ℕ) (e : E) → a < n → b < n → placeOfStations F n xs a b ≡ Some p → es' ≡ set es p e → ms' ≡ set ms p 1 → RunHistory K F n xs loading 0 sq P → Agrees F n es ms sq
-      → RunHistory K F n xs loading 0 (withEntry sq (row_of xs a b) (columnOf xs a b) e) (λ i j. P i j || single (row_of xs a b) (columnOf xs a b) i j) × Agrees F n es' ms' (withEntry sq (row_of xs a b) (columnOf xs a b) e)
-  unfolding placeOf
+  pub put-goes : (a b p : ℕ) (e : E) → a < n → b < n → place_of_stations F n xs a b ≡ Some p → es' ≡ set es p e → ms' ≡ set ms p 1 → RunHistory K F n xs loading 0 sq P → Agrees F n es ms sq
+      → RunHistory K F n xs loading 0 (with_entry sq (row_of xs a b) (column_of xs a b) e) (λ i j. P i j || single (row_of xs a b) (column_of xs a b) i j) × Agrees F n es' ms' (with_entry sq (row_of xs a b) (column_of xs a b) e)
+  unfolding place_for
   put-goes a b p e la lb here he hm h agrees =
       let i = row_of xs a b in
-      let j = columnOf xs a b in
+      let j = column_of xs a b in
       let lt : p < places F n = cell_below F n i j p here in
       let le : p < length es = omega (arith, lt, room.0) in
       let lm : p < length ms = omega (arith, lt, room.1) in
       let one : ◌≡◌ {A = ℕ} 1 0 → ⊥ = λ z. omega arith in
       let same = square-agrees F n es ms sq (only-places K F n xs loading 0 sq P closed h) agrees in
-      let wrote : (x y : ℕ) → squareOf F n es' ms' x y ≡ withEntry sq i j e x y =
+      let wrote : (x y : ℕ) → square_of F n es' ms' x y ≡ with_entry sq i j e x y =
       λ x y. rw (he, hm) (set-square F n i j p 1 es ms e here le lm one x y ∙ ap (λ s. cond (single i j x y) (Some e) s) (same x y)) in
       let room' : Room F n es' ms' = (omega (arith, room.0, ap length he ∙ length-set es p e), omega (arith, room.1, ap length hm ∙ length-set ms p 1)) in
-      (put h a b e la lb (ap is_some here), agrees-square F n es' ms' (withEntry sq i j e) room' wrote)
+      (put h a b e la lb (ap is_some here), agrees-square F n es' ms' (with_entry sq i j e) room' wrote)
 
-  pub step-goes : (k : ℕ) → k < n → pivotal K (squareOf F n es ms k k) ≡ true → Pivoted K F n k (beyond k) es ms es' ms' → RunHistory K F n xs running k sq P → Agrees F n es ms sq
+  pub step-goes : (k : ℕ) → k < n → pivotal K (square_of F n es ms k k) ≡ true → Pivoted K F n k (beyond k) es ms es' ms' → RunHistory K F n xs running k sq P → Agrees F n es ms sq
       → RunHistory K F n xs running (k + 1) (pivot K k sq) P × Agrees F n es' ms' (pivot K k sq)
   step-goes k lt usable pivoted h agrees =
       let same = square-agrees F n es ms sq (only-places K F n xs running k sq P closed h) agrees in
       let room' : Room F n es' ms' = (omega (arith, room.0, pivoted.kept.entries), omega (arith, room.1, pivoted.kept.table)) in (
         stepped h lt (sym (ap (pivotal K) (same k k)) ∙ usable),
-        agrees-square F n es' ms' (pivot K k sq) room' (λ i j. pivoted.square i j ∙ part-like K k (beyond k) (beyond k) (squareOf F n es ms) sq same i j refl),
+        agrees-square F n es' ms' (pivot K k sq) room' (λ i j. pivoted.square i j ∙ part-like K k (beyond k) (beyond k) (square_of F n es ms) sq same i j refl),
       )
 
 -- what a checked place says
 pub record Checked (F : Graph) (n : ℕ) (xs : List ℕ) (entries marks a b : ℕ) (o : Option ℕ) : Type 0 where
   pub first : a < n
   pub second : b < n
-  pub entries-long : places F n ≤ entries
-  pub marks-long : places F n ≤ marks
-  pub place : o ≡ placeOfStations F n xs a b
+  pub entries_long : places F n ≤ entries
+  pub marks_long : places F n ≤ marks
+  pub place : o ≡ place_of_stations F n xs a b
 
-pub checked : (F : Graph) (n : ℕ) (xs : List ℕ) (entries marks a b : ℕ) (o : Option ℕ) → Ok o ≡ checkedPlace F n xs entries marks a b → Checked F n xs entries marks a b o
+pub checked : (F : Graph) (n : ℕ) (xs : List ℕ) (entries marks a b : ℕ) (o : Option ℕ) → Ok o ≡ checked_place_of F n xs entries marks a b → Checked F n xs entries marks a b o
 checked F n xs entries marks a b o h = elim (cases_Bool (ltb a n)) [
   | inr f ↦ (let e : Ok o ≡ Err (at 15 a) = simp f at h in let z : ◌≡◌ {A = ℕ} 0 1 = cc in absurd (omega arith))
   | inl s ↦ elim (cases_Bool (ltb b n)) [
@@ -100,37 +100,37 @@ checked F n xs entries marks a b o h = elim (cases_Bool (ltb a n)) [
     | inl t ↦ elim (cases_Bool (ltb entries (places F n) || ltb marks (places F n))) [
       | inl f ↦ (let e : Ok o ≡ Err (at 17 (places F n)) = simp (s, t, f) at h in let z : ◌≡◌ {A = ℕ} 0 1 = cc in absurd (omega arith))
       | inr u ↦
-          (let e : Ok o ≡ Ok (placeOfStations F n xs a b) = simp (s, t, u) at h in
-          record { first = ltb-true a n s; second = ltb-true b n t; entries-long = grind (arith, nat_tests); marks-long = grind (arith, nat_tests); place = cc })
+          (let e : Ok o ≡ Ok (place_of_stations F n xs a b) = simp (s, t, u) at h in
+          record { first = ltb-true a n s; second = ltb-true b n t; entries_long = grind (arith, nat_tests); marks_long = grind (arith, nat_tests); place = cc })
     ]
   ]
 ]
 
-pub place-within : {E : Type 0} (F : Graph) (n : ℕ) (xs : List ℕ) (a b : ℕ) (es : List E) (ms : List ℕ) (o : Option ℕ) → o ≡ placeOfStations F n xs a b → Room F n es ms → Within (length es) (length ms) o
-unfolding placeOf
-place-within F n xs a b = cell-within F n (row_of xs a b) (columnOf xs a b)
+pub place-within : {E : Type 0} (F : Graph) (n : ℕ) (xs : List ℕ) (a b : ℕ) (es : List E) (ms : List ℕ) (o : Option ℕ) → o ≡ place_of_stations F n xs a b → Room F n es ms → Within (length es) (length ms) o
+unfolding place_for
+place-within F n xs a b = cell-within F n (row_of xs a b) (column_of xs a b)
 
 -- with room nothing is refused by 17
 pub roomy-ok : {X : Type 0} (need entries marks : ℕ) (r : Result X Fault) → need ≤ entries → need ≤ marks → roomy need entries marks r ≡ r
 roomy-ok need entries marks r he hm = simp (le-ltb entries need he, le-ltb marks need hm)
 
 -- a put of two known stations that have a place
-pub put-ok : (F : Graph) (n : ℕ) (xs : List ℕ) (entries marks a b p : ℕ) → a < n → b < n → places F n ≤ entries → places F n ≤ marks → placeOfStations F n xs a b ≡ Some p → putOutcome F n xs entries marks a b ≡ Ok tt
+pub put-ok : (F : Graph) (n : ℕ) (xs : List ℕ) (entries marks a b p : ℕ) → a < n → b < n → places F n ≤ entries → places F n ≤ marks → place_of_stations F n xs a b ≡ Some p → put_outcome F n xs entries marks a b ≡ Ok tt
 put-ok F n xs entries marks a b p la lb he hm here = simp (lt-ltb a n la, lt-ltb b n lb, le-ltb entries (places F n) he, le-ltb marks (places F n) hm, here)
 
 -- what entry answers and step decides, by the square
-pub by-square : {E : Type 0} (K : Kind E) → Answers-are-those-of-the-square K
-unfolding squareOf placeOf
+pub by-square : {E : Type 0} (K : Kind E) → AnswersAreThoseOfTheSquare K
+unfolding square_of place_for
 by-square {E} K F n xs stage k sq P es ms closed h agrees = (
-  λ a b. ap (λ (o : Option E). known n a (known n b (roomy (places F n) (length es) (length ms) (Ok o)))) (same (row_of xs a b) (columnOf xs a b)),
-  λ made. ap (λ (o : Option E). stepOutcome K (places F n) (length es) (length ms) n made o) (same made made),
+  λ a b. ap (λ (o : Option E). known n a (known n b (roomy (places F n) (length es) (length ms) (Ok o)))) (same (row_of xs a b) (column_of xs a b)),
+  λ made. ap (λ (o : Option E). step_outcome K (places F n) (length es) (length ms) n made o) (same made made),
 )
   where
-    same : (i j : ℕ) → squareOf F n es ms i j ≡ sq i j
+    same : (i j : ℕ) → square_of F n es ms i j ≡ sq i j
     same = square-agrees F n es ms sq (only-places K F n xs stage k sq P closed h) agrees
 
 -- a pivot that was made could be made
-pub pivot-made : {E : Type 0} (K : Kind E) (k : ℕ) (o : Option E) (x : Unit {0}) → Ok x ≡ pivotOutcome K k o → pivotal K o ≡ true
+pub pivot-made : {E : Type 0} (K : Kind E) (k : ℕ) (o : Option E) (x : Unit {0}) → Ok x ≡ pivot_outcome K k o → pivotal K o ≡ true
 pivot-made K k o x h = elim (cases_Bool (pivotal K o)) [
   | inl t ↦ t
   | inr f ↦ (let e : Ok x ≡ Err (at 19 k) = simp f at h in let z : ◌≡◌ {A = ℕ} 0 1 = cc in absurd (omega arith))

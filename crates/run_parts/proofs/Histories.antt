@@ -3,15 +3,15 @@ use Rattle.std.proofs.Common.{◌≡◌, ℕ, zero, suc, ◌<◌, ◌≤◌, tru
 use Rattle.std.proofs.lemmas.Bool.{cases_Bool, cases_eq, and_parts, eqb-true, or_cases, both_ways}
 use Rattle.std.proofs.lemmas.Bool.Decides.{nat_tests}
 use Rattle.elimination.specs.Graphs.{Graph}
-use Rattle.plan_parts.specs.Layout.{inColumn, placeOf, cell, Closed}
+use Rattle.plan_parts.specs.Layout.{in_column, place_for, cell, Closed}
 use Rattle.plan_parts.specs.ReserveLaws.{Grounded}
 use Rattle.plan_parts.proofs.Numbering.{cell-some, column-le}
 use Rattle.run_parts.specs.Kinds.{Kind}
 use Rattle.run_parts.specs.Square.{Square, met, pivot, pivotal, single, beyond}
-use Rattle.run_parts.specs.Histories.{Stage, RunHistory, row_of, columnOf}
-use Rattle.run_parts.specs.Laws.{AllPut, Runs-fill-exactly-the-places}
+use Rattle.run_parts.specs.Histories.{Stage, RunHistory, row_of, column_of}
+use Rattle.run_parts.specs.Laws.{AllPut, RunsFillExactlyThePlaces}
 use Rattle.run_parts.specs.Histories.Stage.{loading, running, ended}
-use Rattle.run_parts.specs.Histories.RunHistory.{started, put, put-first-unknown, put-second-unknown, put-short, put-without-place, begun, stepped, step-finished, step-short, step-unusable, finished, asked, asked-first-unknown, asked-second-unknown, asked-short}
+use Rattle.run_parts.specs.Histories.RunHistory.{started, put, put_first_unknown, put_second_unknown, put_short, put_without_place, begun, stepped, step_finished, step_short, step_unusable, finished, asked, asked_first_unknown, asked_second_unknown, asked_short}
 use Rattle.run_parts.proofs.Parts.{part-on, part_off, closed-cell}
 
 some_is : {A : Type 0} (o : Option A) → is_some o ≡ true → (x : A) × (o ≡ Some x)
@@ -77,12 +77,12 @@ module _ {E : Type 0} (K : Kind E) where
   same-sound s = record { within = s.within; puts = s.puts; joins = s.joins }
 
   sound : (F : Graph) (n : ℕ) (xs : List ℕ) (stage : Stage) (k : ℕ) (sq : Square E) (P : Graph) → Closed F n → RunHistory K F n xs stage k sq P → Sound F n k sq P
-  unfolding placeOf
+  unfolding place_for
   sound F n xs stage k sq P closed started = record { within = λ i j h. absurd (both_ways false refl h); puts = λ i j h. absurd (both_ways false refl h); joins = λ i j m lt. absurd (omega arith) }
   sound F n xs stage k sq P closed (put {sq = S} {P = Q} r a b e la lb here) =
       let s = sound F n xs loading 0 S Q closed r in
       let i = row_of xs a b in
-      let j = columnOf xs a b in
+      let j = column_of xs a b in
       record {
         within = λ x y h. elim (cases_Bool (single i j x y)) [
           | inl t ↦ (let w = and_parts (eqb x i) (eqb y j) t in rw (eqb-true x i w.0, eqb-true y j w.1) here)
@@ -94,10 +94,10 @@ module _ {E : Type 0} (K : Kind E) where
         ];
         joins = λ x y m lt. absurd (omega arith);
       }
-  sound F n xs stage k sq P closed (put-first-unknown r a h) = same-sound (sound F n xs loading 0 sq P closed r)
-  sound F n xs stage k sq P closed (put-second-unknown r a b g h) = same-sound (sound F n xs loading 0 sq P closed r)
-  sound F n xs stage k sq P closed (put-short r a b e m f g h) = same-sound (sound F n xs loading 0 sq P closed r)
-  sound F n xs stage k sq P closed (put-without-place r a b f g h) = same-sound (sound F n xs loading 0 sq P closed r)
+  sound F n xs stage k sq P closed (put_first_unknown r a h) = same-sound (sound F n xs loading 0 sq P closed r)
+  sound F n xs stage k sq P closed (put_second_unknown r a b g h) = same-sound (sound F n xs loading 0 sq P closed r)
+  sound F n xs stage k sq P closed (put_short r a b e m f g h) = same-sound (sound F n xs loading 0 sq P closed r)
+  sound F n xs stage k sq P closed (put_without_place r a b f g h) = same-sound (sound F n xs loading 0 sq P closed r)
   sound F n xs stage k sq P closed (begun r) = same-sound (sound F n xs loading 0 sq P closed r)
   sound F n xs stage k sq P closed (stepped {k = q} {sq = S} {P = Q} r lt usable) =
       let s = sound F n xs running q S Q closed r in
@@ -118,14 +118,14 @@ module _ {E : Type 0} (K : Kind E) where
               | inr d ↦ pivot-keeps q S i j (s.joins i j m (omega (arith, d)) mj ji hl' hr')
             ];
       }
-  sound F n xs stage k sq P closed (step-finished r) = same-sound (sound F n xs running n sq P closed r)
-  sound F n xs stage k sq P closed (step-short r e m h) = same-sound (sound F n xs running k sq P closed r)
-  sound F n xs stage k sq P closed (step-unusable r lt h) = same-sound (sound F n xs running k sq P closed r)
+  sound F n xs stage k sq P closed (step_finished r) = same-sound (sound F n xs running n sq P closed r)
+  sound F n xs stage k sq P closed (step_short r e m h) = same-sound (sound F n xs running k sq P closed r)
+  sound F n xs stage k sq P closed (step_unusable r lt h) = same-sound (sound F n xs running k sq P closed r)
   sound F n xs stage k sq P closed (finished r) = same-sound (sound F n xs running k sq P closed r)
   sound F n xs stage k sq P closed (asked r a b g h) = same-sound (sound F n xs ended k sq P closed r)
-  sound F n xs stage k sq P closed (asked-first-unknown r a h) = same-sound (sound F n xs ended k sq P closed r)
-  sound F n xs stage k sq P closed (asked-second-unknown r a b g h) = same-sound (sound F n xs ended k sq P closed r)
-  sound F n xs stage k sq P closed (asked-short r a b e m f g h) = same-sound (sound F n xs ended k sq P closed r)
+  sound F n xs stage k sq P closed (asked_first_unknown r a h) = same-sound (sound F n xs ended k sq P closed r)
+  sound F n xs stage k sq P closed (asked_second_unknown r a b g h) = same-sound (sound F n xs ended k sq P closed r)
+  sound F n xs stage k sq P closed (asked_short r a b e m f g h) = same-sound (sound F n xs ended k sq P closed r)
 
   -- every filled pair is held in the end, by the earlier of its two positions
   filled-held : (F : Graph) (n k : ℕ) (sq : Square E) (P C : Graph) → Sound F n k sq P → Grounded F n C → AllPut n C P → k ≡ n → (top i j : ℕ) → j < top → i < n → j < i → F i j ≡ true → is_some (sq i j) ≡ true
@@ -138,14 +138,14 @@ module _ {E : Type 0} (K : Kind E) where
       (filled-held F n k sq P C s ground all e top j x.0 (omega (arith, x.1)) (omega arith) x.1 x.3))
       (ground i j li ji h)
 
-  pub whole : Runs-fill-exactly-the-places K
-  unfolding inColumn
+  pub whole : RunsFillExactlyThePlaces K
+  unfolding in_column
   whole F n xs stage k sq P closed r = (s.within, λ C ground all e i j h. full C ground all e i j (some_is (cell F n i j) h))
     where
       s : Sound F n k sq P
       s = sound F n xs stage k sq P closed r
 
-      pair : (i j : ℕ) → j < i → inColumn F j i ≡ true → F i j ≡ true
+      pair : (i j : ℕ) → j < i → in_column F j i ≡ true → F i j ≡ true
       pair i j lt h = grind (arith, nat_tests)
 
       full : (C : Graph) → Grounded F n C → AllPut n C P → k ≡ n → (i j : ℕ) → ((p : ℕ) × (cell F n i j ≡ Some p)) → is_some (sq i j) ≡ true

@@ -5,10 +5,10 @@ use Rattle.std.proofs.lemmas.Bool.{cases_Bool, cases_eq, and_parts, eq-eqb, ne_e
 use Rattle.std.proofs.lemmas.Option.{slice_get-get_or}
 use Rattle.std.proofs.lemmas.Bool.Decides.{nat_tests}
 use Rattle.elimination.specs.Graphs.{Graph}
-use Rattle.plan_parts.specs.Layout.{inColumn, cell, Closed}
+use Rattle.plan_parts.specs.Layout.{in_column, cell, Closed}
 use Rattle.run_parts.specs.Kinds.{Kind}
 use Rattle.run_parts.specs.Square.{Square, met, part}
-use Rattle.run_parts.specs.Tables.{entry_at, entry_of, squareOf, Room, Within}
+use Rattle.run_parts.specs.Tables.{entry_at, entry_of, square_of, Room, Within}
 use Rattle.run_parts.specs.Parts.{Kept}
 use Rattle.plan_parts.proofs.Numbering.{Spot, cell-some, cell-once, cell_below, some-cell}
 
@@ -81,8 +81,8 @@ at_other : {E : Type 0} (es : List E) (ms : List ℕ) (p q m : ℕ) (v : E) → 
 at_other es ms p q m v d = rw (get_or-set_other ms p q m 0 d, nth-set-other es p q v d)
 
 pub set-square : {E : Type 0} (F : Graph) (n i j p m : ℕ) (es : List E) (ms : List ℕ) (v : E) → cell F n i j ≡ Some p → p < length es → p < length ms → m ≢ 0
-    → (a b : ℕ) → squareOf F n (set es p v) (set ms p m) a b ≡ cond (eqb a i && eqb b j) (Some v) (squareOf F n es ms a b)
-unfolding squareOf
+    → (a b : ℕ) → square_of F n (set es p v) (set ms p m) a b ≡ cond (eqb a i && eqb b j) (Some v) (square_of F n es ms a b)
+unfolding square_of
 set-square {E} F n i j p m es ms v here h g d a b = go (cell F n a b) refl
   where
     at-cell : (eqb a i && eqb b j) ≡ true → cell F n a b ≡ Some p
@@ -131,7 +131,7 @@ kept_set len p m es ms v lt g d keep one = record {
 
 -- a closed reserve has a place for the pair of two held in one column
 pub closed-cell : (F : Graph) (n i j k p q : ℕ) → Closed F n → k < j → j ≤ i → cell F n i k ≡ Some p → cell F n j k ≡ Some q → (r : ℕ) × (cell F n i j ≡ Some r)
-unfolding inColumn
+unfolding in_column
 closed-cell F n i j k p q closed kj ji h g = (_, some-cell F n i j s.within here)
   where
     s : Spot F n i k p
@@ -140,33 +140,33 @@ closed-cell F n i j k p q closed kj ji h g = (_, some-cell F n i j s.within here
     t : Spot F n j k q
     t = cell-some F n j k q g
 
-    pair : (x : ℕ) → k < x → inColumn F k x ≡ true → F x k ≡ true
+    pair : (x : ℕ) → k < x → in_column F k x ≡ true → F x k ≡ true
     pair x lt e = grind (arith, nat_tests)
 
-    here : inColumn F j i ≡ true
+    here : in_column F j i ≡ true
     here = elim (cases_eq i j) [
       | inl e ↦ simp (eq-eqb i j e)
       | inr d ↦
           (let lt : j < i = omega (arith, d) in
-          let f : F i j ≡ true = closed (record { i = i; j = j; k = k; row = s.within; column = t.within; apart = d; after-row = omega arith; after-column = kj; left = pair i (omega arith) s.here; right = pair j kj t.here }) in
+          let f : F i j ≡ true = closed (record { i = i; j = j; k = k; row = s.within; column = t.within; apart = d; after_row = omega arith; after_column = kj; left = pair i (omega arith) s.here; right = pair j kj t.here }) in
           grind (arith, nat_tests))
     ]
 
 -- what is held has a place
-pub held-cell : {E : Type 0} (F : Graph) (n i j : ℕ) (es : List E) (ms : List ℕ) (x : E) → squareOf F n es ms i j ≡ Some x → (p : ℕ) × (cell F n i j ≡ Some p)
-unfolding squareOf
+pub held-cell : {E : Type 0} (F : Graph) (n i j : ℕ) (es : List E) (ms : List ℕ) (x : E) → square_of F n es ms i j ≡ Some x → (p : ℕ) × (cell F n i j ≡ Some p)
+unfolding square_of
 held-cell {E} F n i j es ms x h = go (cell F n i j) refl
   where
     go : (o : Option ℕ) → cell F n i j ≡ o → (p : ℕ) × (cell F n i j ≡ Some p)
     go None e = let z : None ≡ Some x = sym (ap (entry_of es ms) e) ∙ h in let y : ◌≡◌ {A = ℕ} 0 1 = cc in absurd (omega arith)
     go (Some p) e = (p, e)
 
-pub square-some : {E : Type 0} (F : Graph) (n i j : ℕ) (es : List E) (ms : List ℕ) (p : ℕ) → cell F n i j ≡ Some p → squareOf F n es ms i j ≡ entry_at es ms p
-unfolding squareOf
+pub square-some : {E : Type 0} (F : Graph) (n i j : ℕ) (es : List E) (ms : List ℕ) (p : ℕ) → cell F n i j ≡ Some p → square_of F n es ms i j ≡ entry_at es ms p
+unfolding square_of
 square-some F n i j es ms p h = ap (entry_of es ms) h
 
-pub square-none : {E : Type 0} (F : Graph) (n i j : ℕ) (es : List E) (ms : List ℕ) → cell F n i j ≡ None → squareOf F n es ms i j ≡ None
-unfolding squareOf
+pub square-none : {E : Type 0} (F : Graph) (n i j : ℕ) (es : List E) (ms : List ℕ) → cell F n i j ≡ None → square_of F n es ms i j ≡ None
+unfolding square_of
 square-none F n i j es ms h = ap (entry_of es ms) h
 
 pub nth-some : {E : Type 0} (xs : List E) (i : ℕ) → i < length xs → (x : E) × (slice_get xs i ≡ Some x)

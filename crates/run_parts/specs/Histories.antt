@@ -4,9 +4,9 @@ use Rattle.std.specs.List.{slice_get}
 use Rattle.elimination.specs.Graphs.{Graph}
 use Rattle.elimination.specs.Orders.{position_of}
 use Rattle.plan_parts.specs.Layout.{cell, places}
-use Rattle.plan_parts.specs.Reserves.{placeOfStations}
+use Rattle.plan_parts.specs.Reserves.{place_of_stations}
 use Rattle.run_parts.specs.Kinds.{Kind}
-use Rattle.run_parts.specs.Square.{Square, empty, pivot, pivotal, single, withEntry}
+use Rattle.run_parts.specs.Square.{Square, empty, pivot, pivotal, single, with_entry}
 
 pub data Stage : Type 0 where
   loading : Stage
@@ -17,8 +17,8 @@ pub data Stage : Type 0 where
 abbrev pub row_of : List ℕ → ℕ → ℕ → ℕ
 row_of xs a b = max (position_of xs a) (position_of xs b)
 
-abbrev pub columnOf : List ℕ → ℕ → ℕ → ℕ
-columnOf xs a b = min (position_of xs a) (position_of xs b)
+abbrev pub column_of : List ℕ → ℕ → ℕ → ℕ
+column_of xs a b = min (position_of xs a) (position_of xs b)
 
 -- a table that is shorter than the reserve
 abbrev pub Short : ℕ → ℕ → ℕ → Type 0
@@ -28,32 +28,32 @@ Short need entries marks = (entries < need) ⊎ (marks < need)
 -- It tells the stage, how many pivots were made, the full square, and which of its places were put.
 pub data RunHistory {E : Type 0} (K : Kind E) (F : Graph) (n : ℕ) (xs : List ℕ) : Stage → ℕ → Square E → Graph → Type 0 where
   started : RunHistory K F n xs loading 0 empty (λ i j. false)
-  put : {sq : Square E} {P : Graph} → RunHistory K F n xs loading 0 sq P → (a b : ℕ) (e : E) → a < n → b < n → is_some (placeOfStations F n xs a b) ≡ true
-      → RunHistory K F n xs loading 0 (withEntry sq (row_of xs a b) (columnOf xs a b) e) (λ i j. P i j || single (row_of xs a b) (columnOf xs a b) i j)
-  put-first-unknown : {sq : Square E} {P : Graph} → RunHistory K F n xs loading 0 sq P → (a : ℕ) → n ≤ a
+  put : {sq : Square E} {P : Graph} → RunHistory K F n xs loading 0 sq P → (a b : ℕ) (e : E) → a < n → b < n → is_some (place_of_stations F n xs a b) ≡ true
+      → RunHistory K F n xs loading 0 (with_entry sq (row_of xs a b) (column_of xs a b) e) (λ i j. P i j || single (row_of xs a b) (column_of xs a b) i j)
+  put_first_unknown : {sq : Square E} {P : Graph} → RunHistory K F n xs loading 0 sq P → (a : ℕ) → n ≤ a
       → RunHistory K F n xs loading 0 sq P
-  put-second-unknown : {sq : Square E} {P : Graph} → RunHistory K F n xs loading 0 sq P → (a b : ℕ) → a < n → n ≤ b
+  put_second_unknown : {sq : Square E} {P : Graph} → RunHistory K F n xs loading 0 sq P → (a b : ℕ) → a < n → n ≤ b
       → RunHistory K F n xs loading 0 sq P
-  put-short : {sq : Square E} {P : Graph} → RunHistory K F n xs loading 0 sq P → (a b entries marks : ℕ) → a < n → b < n → Short (places F n) entries marks
+  put_short : {sq : Square E} {P : Graph} → RunHistory K F n xs loading 0 sq P → (a b entries marks : ℕ) → a < n → b < n → Short (places F n) entries marks
       → RunHistory K F n xs loading 0 sq P
-  put-without-place : {sq : Square E} {P : Graph} → RunHistory K F n xs loading 0 sq P → (a b : ℕ) → a < n → b < n → placeOfStations F n xs a b ≡ None
+  put_without_place : {sq : Square E} {P : Graph} → RunHistory K F n xs loading 0 sq P → (a b : ℕ) → a < n → b < n → place_of_stations F n xs a b ≡ None
       → RunHistory K F n xs loading 0 sq P
   begun : {sq : Square E} {P : Graph} → RunHistory K F n xs loading 0 sq P → RunHistory K F n xs running 0 sq P
   stepped : {k : ℕ} {sq : Square E} {P : Graph} → RunHistory K F n xs running k sq P → k < n → pivotal K (sq k k) ≡ true
       → RunHistory K F n xs running (k + 1) (pivot K k sq) P
-  step-finished : {sq : Square E} {P : Graph} → RunHistory K F n xs running n sq P → RunHistory K F n xs running n sq P
-  step-short : {k : ℕ} {sq : Square E} {P : Graph} → RunHistory K F n xs running k sq P → (entries marks : ℕ) → Short (places F n) entries marks
+  step_finished : {sq : Square E} {P : Graph} → RunHistory K F n xs running n sq P → RunHistory K F n xs running n sq P
+  step_short : {k : ℕ} {sq : Square E} {P : Graph} → RunHistory K F n xs running k sq P → (entries marks : ℕ) → Short (places F n) entries marks
       → RunHistory K F n xs running k sq P
-  step-unusable : {k : ℕ} {sq : Square E} {P : Graph} → RunHistory K F n xs running k sq P → k < n → pivotal K (sq k k) ≡ false
+  step_unusable : {k : ℕ} {sq : Square E} {P : Graph} → RunHistory K F n xs running k sq P → k < n → pivotal K (sq k k) ≡ false
       → RunHistory K F n xs running k sq P
   finished : {k : ℕ} {sq : Square E} {P : Graph} → RunHistory K F n xs running k sq P → RunHistory K F n xs ended k sq P
   asked : {k : ℕ} {sq : Square E} {P : Graph} → RunHistory K F n xs ended k sq P → (a b : ℕ) → a < n → b < n
       → RunHistory K F n xs ended k sq P
-  asked-first-unknown : {k : ℕ} {sq : Square E} {P : Graph} → RunHistory K F n xs ended k sq P → (a : ℕ) → n ≤ a
+  asked_first_unknown : {k : ℕ} {sq : Square E} {P : Graph} → RunHistory K F n xs ended k sq P → (a : ℕ) → n ≤ a
       → RunHistory K F n xs ended k sq P
-  asked-second-unknown : {k : ℕ} {sq : Square E} {P : Graph} → RunHistory K F n xs ended k sq P → (a b : ℕ) → a < n → n ≤ b
+  asked_second_unknown : {k : ℕ} {sq : Square E} {P : Graph} → RunHistory K F n xs ended k sq P → (a b : ℕ) → a < n → n ≤ b
       → RunHistory K F n xs ended k sq P
-  asked-short : {k : ℕ} {sq : Square E} {P : Graph} → RunHistory K F n xs ended k sq P → (a b entries marks : ℕ) → a < n → b < n → Short (places F n) entries marks
+  asked_short : {k : ℕ} {sq : Square E} {P : Graph} → RunHistory K F n xs ended k sq P → (a b entries marks : ℕ) → a < n → b < n → Short (places F n) entries marks
       → RunHistory K F n xs ended k sq P
 
 -- the tables hold what the square holds: at each place the mark is 0 exactly if the square is empty there,

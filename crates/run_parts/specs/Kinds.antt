@@ -14,21 +14,21 @@ abbrev pub kind : {E : Type 0} → (E → Bool) → (E → E → E → E) → (E
 kind usable first more = record { usable = usable; first = first; more = more }
 
 -- levels: above zero and below infinity; each operation rounds to 64 bits
-abbrev pub levelUsable : Float → Bool
-levelUsable pivot = lt (from_bits binary64 0) pivot && lt pivot (inf false)
+abbrev pub level_usable : Float → Bool
+level_usable pivot = lt (from_bits binary64 0) pivot && lt pivot (inf false)
 
-abbrev pub levelProduct : Float → Float → Float → Float
-levelProduct left pivot right = mul binary64 (div binary64 left pivot) right
+abbrev pub level_product : Float → Float → Float → Float
+level_product left pivot right = mul binary64 (div binary64 left pivot) right
 
-abbrev pub levelFirst : Float → Float → Float → Float
-levelFirst left pivot right = neg (levelProduct left pivot right)
+abbrev pub level_first : Float → Float → Float → Float
+level_first left pivot right = neg (level_product left pivot right)
 
-abbrev pub levelMore : Float → Float → Float → Float → Float
-levelMore old left pivot right = sub binary64 old (levelProduct left pivot right)
+abbrev pub level_more : Float → Float → Float → Float → Float
+level_more old left pivot right = sub binary64 old (level_product left pivot right)
 
 -- minutes: a sum is held at the largest number, and the smaller of two ways counts
-abbrev pub minutesFirst : ℕ → ℕ → ℕ → ℕ
-minutesFirst left pivot right = min (left + right) 4294967295
+abbrev pub minutes_first : ℕ → ℕ → ℕ → ℕ
+minutes_first left pivot right = min (left + right) 4294967295
 
-abbrev pub minutesMore : ℕ → ℕ → ℕ → ℕ → ℕ
-minutesMore old left pivot right = min old (minutesFirst left pivot right)
+abbrev pub minutes_more : ℕ → ℕ → ℕ → ℕ → ℕ
+minutes_more old left pivot right = min old (minutes_first left pivot right)

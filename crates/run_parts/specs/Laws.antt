@@ -6,9 +6,9 @@ use Rattle.plan_parts.specs.Reserves.{known}
 use Rattle.plan_parts.specs.ReserveLaws.{Grounded}
 use Rattle.run_parts.specs.Kinds.{Kind}
 use Rattle.run_parts.specs.Square.{Square}
-use Rattle.run_parts.specs.Tables.{squareOf}
-use Rattle.run_parts.specs.Histories.{Stage, RunHistory, Agrees, row_of, columnOf}
-use Rattle.run_parts.specs.Outcomes.{entryOutcome, roomy, stepOutcome}
+use Rattle.run_parts.specs.Tables.{square_of}
+use Rattle.run_parts.specs.Histories.{Stage, RunHistory, Agrees, row_of, column_of}
+use Rattle.run_parts.specs.Outcomes.{entry_outcome, roomy, step_outcome}
 
 -- every diagonal place and every coupling was put
 pub record AllPut (n : ℕ) (C P : Graph) : Type 0 where
@@ -17,14 +17,14 @@ pub record AllPut (n : ℕ) (C P : Graph) : Type 0 where
 
 -- after every history of a run on closed pairs, the square holds entries only where there are places; and once every
 -- coupling and diagonal was put and every pivot made, each place holds one
-abbrev pub Runs-fill-exactly-the-places : {E : Type 0} → Kind E → Type 0
-Runs-fill-exactly-the-places {E} K = (F : Graph) (n : ℕ) (xs : List ℕ) (stage : Stage) (k : ℕ) (sq : Square E) (P : Graph) → Closed F n → RunHistory K F n xs stage k sq P
+abbrev pub RunsFillExactlyThePlaces : {E : Type 0} → Kind E → Type 0
+RunsFillExactlyThePlaces {E} K = (F : Graph) (n : ℕ) (xs : List ℕ) (stage : Stage) (k : ℕ) (sq : Square E) (P : Graph) → Closed F n → RunHistory K F n xs stage k sq P
     → ((i j : ℕ) → is_some (sq i j) ≡ true → is_some (cell F n i j) ≡ true)
     × ((C : Graph) → Grounded F n C → AllPut n C P → k ≡ n → (i j : ℕ) → is_some (cell F n i j) ≡ true → is_some (sq i j) ≡ true)
 
 -- over tables that hold the square of a history, entry answers what the square holds, and step decides by the square
-abbrev pub Answers-are-those-of-the-square : {E : Type 0} → Kind E → Type 0
-Answers-are-those-of-the-square {E} K = (F : Graph) (n : ℕ) (xs : List ℕ) (stage : Stage) (k : ℕ) (sq : Square E) (P : Graph) (es : List E) (ms : List ℕ)
+abbrev pub AnswersAreThoseOfTheSquare : {E : Type 0} → Kind E → Type 0
+AnswersAreThoseOfTheSquare {E} K = (F : Graph) (n : ℕ) (xs : List ℕ) (stage : Stage) (k : ℕ) (sq : Square E) (P : Graph) (es : List E) (ms : List ℕ)
     → Closed F n → RunHistory K F n xs stage k sq P → Agrees F n es ms sq
-    → ((a b : ℕ) → entryOutcome F n xs es ms a b ≡ known n a (known n b (roomy (places F n) (length es) (length ms) (Ok (sq (row_of xs a b) (columnOf xs a b))))))
-    × ((made : ℕ) → stepOutcome K (places F n) (length es) (length ms) n made (squareOf F n es ms made made) ≡ stepOutcome K (places F n) (length es) (length ms) n made (sq made made))
+    → ((a b : ℕ) → entry_outcome F n xs es ms a b ≡ known n a (known n b (roomy (places F n) (length es) (length ms) (Ok (sq (row_of xs a b) (column_of xs a b))))))
+    × ((made : ℕ) → step_outcome K (places F n) (length es) (length ms) n made (square_of F n es ms made made) ≡ step_outcome K (places F n) (length es) (length ms) n made (sq made made))

@@ -14,8 +14,8 @@ abbrev pub single : ℕ → ℕ → ℕ → ℕ → Bool
 single i j a b = a == i && b == j
 
 -- the square with an entry put at row i and column j
-abbrev pub withEntry : {E : Type 0} → Square E → ℕ → ℕ → E → Square E
-withEntry sq i j e a b = cond (single i j a b) (Some e) (sq a b)
+abbrev pub with_entry : {E : Type 0} → Square E → ℕ → ℕ → E → Square E
+with_entry sq i j e a b = cond (single i j a b) (Some e) (sq a b)
 
 -- an empty place takes first, a held one more
 abbrev pub taken : {E : Type 0} → Kind E → Option E → E → E → E → E

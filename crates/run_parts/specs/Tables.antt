@@ -20,8 +20,8 @@ Within entries marks None = Unit {0}
 Within entries marks (Some p) = (p < entries) × (p < marks)
 
 -- the square that the tables hold, over the filled pairs F of n positions
-unfoldable pub squareOf : {E : Type 0} → Graph → ℕ → List E → List ℕ → Square E
-squareOf F n es ms i j = entry_of es ms (cell F n i j)
+unfoldable pub square_of : {E : Type 0} → Graph → ℕ → List E → List ℕ → Square E
+square_of F n es ms i j = entry_of es ms (cell F n i j)
 
 -- the tables have room for all places
 abbrev pub Room : {E : Type 0} → Graph → ℕ → List E → List ℕ → Type 0
@@ -34,28 +34,28 @@ zeroed (suc n) [] = []
 zeroed (suc n) (m ∷ ms) = 0 ∷ zeroed n ms
 
 -- an entry written at its place; its mark, 1 where it was 0 and else as it was
-abbrev pub entryOver : {E : Type 0} → Option ℕ → Option E → List E → List E
-entryOver None held es = es
-entryOver (Some p) None es = es
-entryOver (Some p) (Some e) es = slice_set es p e
+abbrev pub entry_over : {E : Type 0} → Option ℕ → Option E → List E → List E
+entry_over None held es = es
+entry_over (Some p) None es = es
+entry_over (Some p) (Some e) es = slice_set es p e
 
-abbrev pub markOver : {E : Type 0} → Option ℕ → Option E → List ℕ → List ℕ
-markOver None held ms = ms
-markOver (Some p) None ms = ms
-markOver (Some p) (Some e) ms = slice_set ms p (cond (slice_index ms p == 0) 1 (slice_index ms p))
+abbrev pub mark_over : {E : Type 0} → Option ℕ → Option E → List ℕ → List ℕ
+mark_over None held ms = ms
+mark_over (Some p) None ms = ms
+mark_over (Some p) (Some e) ms = slice_set ms p (cond (slice_index ms p == 0) 1 (slice_index ms p))
 
 -- something done to a table at each row below i of column j, and at each row below n of the columns below j
-unfoldable pub overRows : {A : Type 0} → (ℕ → ℕ → A → A) → ℕ → ℕ → A → A
-overRows write j zero x = x
-overRows write j (suc i) x = write i j (overRows write j i x)
+unfoldable pub over_rows : {A : Type 0} → (ℕ → ℕ → A → A) → ℕ → ℕ → A → A
+over_rows write j zero x = x
+over_rows write j (suc i) x = write i j (over_rows write j i x)
 
-unfoldable pub overColumns : {A : Type 0} → (ℕ → ℕ → A → A) → ℕ → ℕ → A → A
-overColumns write n zero x = x
-overColumns write n (suc j) x = overRows write j n (overColumns write n j x)
+unfoldable pub over_columns : {A : Type 0} → (ℕ → ℕ → A → A) → ℕ → ℕ → A → A
+over_columns write n zero x = x
+over_columns write n (suc j) x = over_rows write j n (over_columns write n j x)
 
 -- the tables with all that a square holds written at its places
-unfoldable pub entriesOver : {E : Type 0} → Graph → ℕ → Square E → List E → List E
-entriesOver F n sq es = overColumns (λ i j. entryOver (cell F n i j) (sq i j)) n n es
+unfoldable pub entries_over : {E : Type 0} → Graph → ℕ → Square E → List E → List E
+entries_over F n sq es = over_columns (λ i j. entry_over (cell F n i j) (sq i j)) n n es
 
-unfoldable pub marksOver : {E : Type 0} → Graph → ℕ → Square E → List ℕ → List ℕ
-marksOver F n sq ms = overColumns (λ i j. markOver (cell F n i j) (sq i j)) n n ms
+unfoldable pub marks_over : {E : Type 0} → Graph → ℕ → Square E → List ℕ → List ℕ
+marks_over F n sq ms = over_columns (λ i j. mark_over (cell F n i j) (sq i j)) n n ms

@@ -2,7 +2,7 @@
 //! Nothing more is asked of a kind, and every promise holds for every kind.
 ghost use Rattle.std.specs.Prelude.{◌≡◌, Bool, true, false};
 ghost use Rattle.std.specs.Float.{inf};
-ghost use Rattle.run_parts.specs.Kinds.{levelFirst, levelMore, levelUsable, minutesFirst, minutesMore};
+ghost use Rattle.run_parts.specs.Kinds.{level_first, level_more, level_usable, minutes_first, minutes_more};
 
 /// A kind of entry. The ghost members say what its functions answer.
 pub trait Entry: Copy {
@@ -37,11 +37,11 @@ fn infinity() -> f64
 pub struct Level(pub f64);
 
 impl Entry for Level {
-    ghost usable = { λ pivot. levelUsable pivot.0 };
+    ghost usable = { λ pivot. level_usable pivot.0 };
 
-    ghost first = { λ left pivot right. record { 0 = levelFirst left.0 pivot.0 right.0 } };
+    ghost first = { λ left pivot right. record { 0 = level_first left.0 pivot.0 right.0 } };
 
-    ghost more = { λ old left pivot right. record { 0 = levelMore old.0 left.0 pivot.0 right.0 } };
+    ghost more = { λ old left pivot right. record { 0 = level_more old.0 left.0 pivot.0 right.0 } };
 
     fn is_usable(self) -> bool {
         0.0 < self.0 && self.0 < infinity()
@@ -63,9 +63,9 @@ pub struct Minutes(pub u32);
 impl Entry for Minutes {
     ghost usable = { λ pivot. true };
 
-    ghost first = { λ left pivot right. record { 0 = minutesFirst left.0 pivot.0 right.0 } };
+    ghost first = { λ left pivot right. record { 0 = minutes_first left.0 pivot.0 right.0 } };
 
-    ghost more = { λ old left pivot right. record { 0 = minutesMore old.0 left.0 pivot.0 right.0 } };
+    ghost more = { λ old left pivot right. record { 0 = minutes_more old.0 left.0 pivot.0 right.0 } };
 
     fn is_usable(self) -> bool {
         true

@@ -2,12 +2,12 @@
 //! The cost of a pivot is about the square of its column's length.
 ghost use Rattle.std.specs.Prelude.{◌≡◌, ◌<◌, ◌≤◌, Some, MatchResult};
 ghost use Rattle.network.specs.Refusals.{outcome};
-ghost use Rattle.plan_parts.specs.ReserveView.{filledIn, sizeIn};
+ghost use Rattle.plan_parts.specs.ReserveView.{filled_in, size_in};
 ghost use Rattle.run_parts.specs.Kinds.{kind};
-ghost use Rattle.run_parts.specs.Outcomes.{pivotOutcome};
-ghost use Rattle.run_parts.specs.Parts.{Pivoted, inOne};
+ghost use Rattle.run_parts.specs.Outcomes.{pivot_outcome};
+ghost use Rattle.run_parts.specs.Parts.{Pivoted, in_one};
 ghost use Rattle.run_parts.specs.Square.{beyond, single};
-ghost use Rattle.run_parts.specs.Tables.{Room, squareOf};
+ghost use Rattle.run_parts.specs.Tables.{Room, square_of};
 
 use crate::kinds::Entry;
 use crate::tables::{held, take};
@@ -27,10 +27,10 @@ fn meet<E: Entry>(
 )
     requires after { k < j }
     requires row { j ≤ i }
-    requires room { Room (filledIn reserve.now) (sizeIn reserve.now) entries.old marks.old }
-    requires middle { squareOf (filledIn reserve.now) (sizeIn reserve.now) entries.old marks.old k k ≡ Some pivot }
-    requires side { squareOf (filledIn reserve.now) (sizeIn reserve.now) entries.old marks.old j k ≡ Some right }
-    ensures { Pivoted (kind E.Entry.usable E.Entry.first E.Entry.more) (filledIn reserve.now) (sizeIn reserve.now) k (single i j) entries.old marks.old entries.new marks.new }
+    requires room { Room (filled_in reserve.now) (size_in reserve.now) entries.old marks.old }
+    requires middle { square_of (filled_in reserve.now) (size_in reserve.now) entries.old marks.old k k ≡ Some pivot }
+    requires side { square_of (filled_in reserve.now) (size_in reserve.now) entries.old marks.old j k ≡ Some right }
+    ensures { Pivoted (kind E.Entry.usable E.Entry.first E.Entry.more) (filled_in reserve.now) (size_in reserve.now) k (single i j) entries.old marks.old entries.new marks.new }
 {
     let Some(left) = held(reserve, entries, marks, i, k) else {
         return;
@@ -50,9 +50,9 @@ fn sweep<E: Entry>(
     pivot: E,
 )
     requires after { k < j }
-    requires room { Room (filledIn reserve.now) (sizeIn reserve.now) entries.old marks.old }
-    requires middle { squareOf (filledIn reserve.now) (sizeIn reserve.now) entries.old marks.old k k ≡ Some pivot }
-    ensures { Pivoted (kind E.Entry.usable E.Entry.first E.Entry.more) (filledIn reserve.now) (sizeIn reserve.now) k (inOne j (sizeIn reserve.now)) entries.old marks.old entries.new marks.new }
+    requires room { Room (filled_in reserve.now) (size_in reserve.now) entries.old marks.old }
+    requires middle { square_of (filled_in reserve.now) (size_in reserve.now) entries.old marks.old k k ≡ Some pivot }
+    ensures { Pivoted (kind E.Entry.usable E.Entry.first E.Entry.more) (filled_in reserve.now) (size_in reserve.now) k (in_one j (size_in reserve.now)) entries.old marks.old entries.new marks.new }
 {
     let Some(right) = held(reserve, entries, marks, j, k) else {
         return;
@@ -66,10 +66,10 @@ fn sweep<E: Entry>(
 
 /// Pivot `k`, column by column along the members of column `k`.
 fn eliminate<E: Entry>(reserve: &Reserve, entries: &mut [E], marks: &mut [u8], k: usize, pivot: E)
-    requires small { k < sizeIn reserve.now }
-    requires room { Room (filledIn reserve.now) (sizeIn reserve.now) entries.old marks.old }
-    requires middle { squareOf (filledIn reserve.now) (sizeIn reserve.now) entries.old marks.old k k ≡ Some pivot }
-    ensures { Pivoted (kind E.Entry.usable E.Entry.first E.Entry.more) (filledIn reserve.now) (sizeIn reserve.now) k (beyond k) entries.old marks.old entries.new marks.new }
+    requires small { k < size_in reserve.now }
+    requires room { Room (filled_in reserve.now) (size_in reserve.now) entries.old marks.old }
+    requires middle { square_of (filled_in reserve.now) (size_in reserve.now) entries.old marks.old k k ≡ Some pivot }
+    ensures { Pivoted (kind E.Entry.usable E.Entry.first E.Entry.more) (filled_in reserve.now) (size_in reserve.now) k (beyond k) entries.old marks.old entries.new marks.new }
 {
     let mut from = k + 1;
     while let Some(j) = reserve.next_in_column(k, from) {
@@ -85,10 +85,10 @@ pub(crate) fn make_pivot<E: Entry>(
     marks: &mut [u8],
     k: u16,
 ) -> Result<(), Refusal>
-    requires small { k < sizeIn reserve.now }
-    requires room { Room (filledIn reserve.now) (sizeIn reserve.now) entries.old marks.old }
-    ensures value { outcome result ≡ pivotOutcome (kind E.Entry.usable E.Entry.first E.Entry.more) k (squareOf (filledIn reserve.now) (sizeIn reserve.now) entries.old marks.old k k) }
-    ensures tables { MatchResult result (λ _. Pivoted (kind E.Entry.usable E.Entry.first E.Entry.more) (filledIn reserve.now) (sizeIn reserve.now) k (beyond k) entries.old marks.old entries.new marks.new) (λ _. (entries.new ≡ entries.old) × (marks.new ≡ marks.old)) }
+    requires small { k < size_in reserve.now }
+    requires room { Room (filled_in reserve.now) (size_in reserve.now) entries.old marks.old }
+    ensures value { outcome result ≡ pivot_outcome (kind E.Entry.usable E.Entry.first E.Entry.more) k (square_of (filled_in reserve.now) (size_in reserve.now) entries.old marks.old k k) }
+    ensures tables { MatchResult result (λ _. Pivoted (kind E.Entry.usable E.Entry.first E.Entry.more) (filled_in reserve.now) (size_in reserve.now) k (beyond k) entries.old marks.old entries.new marks.new) (λ _. (entries.new ≡ entries.old) × (marks.new ≡ marks.old)) }
 {
     let at = k as usize;
     let Some(pivot) = held(reserve, entries, marks, at, at) else {

@@ -2,12 +2,12 @@
 //! Mark 0 means empty, any other mark means held; places are numbered by the reserve.
 ghost use Rattle.std.specs.Prelude.{◌≡◌, ◌<◌, ◌≤◌, length, if◌then◌else◌, Ok, OnOk, nat_eq, slice_index, slice_set};
 ghost use Rattle.network.specs.Refusals.{outcome};
-ghost use Rattle.plan_parts.specs.ReserveView.{filledIn, order_in, sizeIn};
+ghost use Rattle.plan_parts.specs.ReserveView.{filled_in, order_in, size_in};
 ghost use Rattle.run_parts.specs.Kinds.{kind};
-ghost use Rattle.run_parts.specs.Outcomes.{checkedPlace, roomy};
+ghost use Rattle.run_parts.specs.Outcomes.{checked_place_of, roomy};
 ghost use Rattle.run_parts.specs.Square.{taken};
-ghost use Rattle.run_parts.specs.Places.{placesIn};
-ghost use Rattle.run_parts.specs.Tables.{Room, Within, entry_at, entry_of, squareOf, zeroed};
+ghost use Rattle.run_parts.specs.Places.{places_in};
+ghost use Rattle.run_parts.specs.Tables.{Room, Within, entry_at, entry_of, square_of, zeroed};
 
 use crate::kinds::Entry;
 use network::Refusal;
@@ -32,7 +32,7 @@ pub(crate) fn checked_place<E: Entry>(
     a: u16,
     b: u16,
 ) -> Result<Option<usize>, Refusal>
-    ensures { outcome result ≡ checkedPlace (filledIn reserve.now) (sizeIn reserve.now) (order_in reserve.now) (length entries.now) (length marks.now) a b }
+    ensures { outcome result ≡ checked_place_of (filled_in reserve.now) (size_in reserve.now) (order_in reserve.now) (length entries.now) (length marks.now) a b }
 {
     let place = reserve.place(a, b)?;
     check_room(reserve.length(), entries, marks)?;
@@ -61,8 +61,8 @@ pub(crate) fn held<E: Entry>(
     i: usize,
     j: usize,
 ) -> Option<E>
-    requires { Room (filledIn reserve.now) (sizeIn reserve.now) entries.now marks.now }
-    ensures { result ≡ squareOf (filledIn reserve.now) (sizeIn reserve.now) entries.now marks.now i j }
+    requires { Room (filled_in reserve.now) (size_in reserve.now) entries.now marks.now }
+    ensures { result ≡ square_of (filled_in reserve.now) (size_in reserve.now) entries.now marks.now i j }
 {
     entry_at(entries, marks, reserve.cell(i, j))
 }
@@ -113,8 +113,8 @@ fn clear(marks: &mut [u8], n: usize)
 
 /// Zeroes the marks of all places of a reserve.
 pub(crate) fn clear_places(reserve: &Reserve, marks: &mut [u8])
-    requires { placesIn reserve.now ≤ length marks.old }
-    ensures { marks.new ≡ zeroed (placesIn reserve.now) marks.old }
+    requires { places_in reserve.now ≤ length marks.old }
+    ensures { marks.new ≡ zeroed (places_in reserve.now) marks.old }
 {
     clear(marks, reserve.length());
 }

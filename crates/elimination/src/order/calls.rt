@@ -1,6 +1,6 @@
 //! How orders are made, and what can be asked of them.
 ghost use Rattle.std.specs.Prelude.{◌≡◌, ◌<◌, ◌≤◌, length, take, IfOk, None, slice_index};
-ghost use Rattle.network.specs.Orders.{orderFault};
+ghost use Rattle.network.specs.Orders.{order_fault};
 ghost use Rattle.network.specs.Refusals.{unless};
 ghost use Rattle.elimination.specs.Kept.{Found, Named, Placed};
 ghost use Rattle.elimination.specs.Orders.{position_of, up_to};
@@ -69,7 +69,7 @@ pub(crate) fn settled(size: u16, stations: [u16; 512]) -> EliminationOrder
 
 /// The order of a list that the check of orders passed.
 fn ordered(size: u16, list: &[u16]) -> EliminationOrder
-    requires { orderFault list.now size ≡ None }
+    requires { order_fault list.now size ≡ None }
     ensures size { result.size ≡ size }
     ensures list { listed result ≡ list.now }
 {
@@ -104,7 +104,7 @@ impl EliminationOrder {
     /// The order that a list gives, or why it gives none: its length, or the index of a station that is unknown or repeated.
     /// It walks the list three times.
     pub fn from_list(size: u16, list: &[u16]) -> Result<EliminationOrder, Refusal>
-        ensures value { listing result ≡ unless (orderFault list.now size) list.now }
+        ensures value { listing result ≡ unless (order_fault list.now size) list.now }
         ensures size { IfOk result (λ order. order.size ≡ size) }
     {
         check_order(size, list)?;

@@ -2,10 +2,10 @@
 ghost use Rattle.std.specs.Prelude.{◌≡◌, ℕ, ◌*◌, ◌<◌, ◌≤◌, false};
 ghost use Rattle.network.specs.Bits.{count_to};
 ghost use Rattle.network.specs.Laws.{FirstIs};
-ghost use Rattle.elimination.specs.Elimination.{pairsBelow};
+ghost use Rattle.elimination.specs.Elimination.{pairs_below};
 ghost use Rattle.elimination.specs.Graphs.{apart, around, including, union, without};
 ghost use Rattle.elimination.specs.View.{graph};
-ghost use Rattle.elimination.specs.Words.{between, commonWithin, nextIn};
+ghost use Rattle.elimination.specs.Words.{between, has_common_within, next_of};
 
 use super::PairSet;
 use crate::words::{
@@ -61,7 +61,7 @@ impl PairSet {
     /// The first station not below `from` that is paired with `a`: at most eight word steps.
     pub fn next(&self, a: usize, from: usize) -> Option<usize>
         requires { a < 512 }
-        ensures value { result ≡ nextIn (graph self.now) a from }
+        ensures value { result ≡ next_of (graph self.now) a from }
         ensures first { FirstIs (graph self.now a) from 512 result }
     {
         next_in(&self.words, a, from)
@@ -72,7 +72,7 @@ impl PairSet {
         requires one { a < 512 }
         requires two { b < 512 }
         requires third { c < 512 }
-        ensures { result ≡ commonWithin 512 (graph self.now) a b c }
+        ensures { result ≡ has_common_within 512 (graph self.now) a b c }
     {
         common_within(&self.words, a, b, c)
     }
@@ -89,7 +89,7 @@ impl PairSet {
     /// How many pairs of stations below `n` there are: eight word steps for each station.
     pub fn count_pairs(&self, n: usize) -> u32
         requires { n ≤ 512 }
-        ensures value { result ≡ pairsBelow n (graph self.now) }
+        ensures value { result ≡ pairs_below n (graph self.now) }
         ensures small { result ≤ 512 * n }
     {
         count_rows(&self.words, n)

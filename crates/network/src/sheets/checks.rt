@@ -1,9 +1,9 @@
 //! The checks of a sheet, in their order: header, couplings, order, end.
 //! Each is one pass over its part, and answers the first fault there.
 ghost use Rattle.std.specs.Prelude.{◌≡◌, ℕ, ◌+◌, ◌-◌, ◌*◌, ◌^◌, ◌<◌, ◌≤◌, IfOk, Ok, Err, MatchResult, OnOk};
-ghost use Rattle.network.specs.Decode.{placeOf, value_at, pairFault, placedFault, endFault, decode, sheetOf, Stands};
+ghost use Rattle.network.specs.Decode.{place_for, value_at, pair_fault, placed_fault, end_fault, decode, sheet_of, Stands};
 ghost use Rattle.network.specs.Parts.{head_of, pair_of};
-ghost use Rattle.network.specs.Refusals.{told, outcome, firstFault, unless};
+ghost use Rattle.network.specs.Refusals.{told, outcome, first_fault, unless};
 ghost use Rattle.network.specs.Sheets.{width, before};
 
 use crate::bit_fields::{BitReader, field_of};
@@ -26,7 +26,7 @@ pub(crate) fn width_of(stations: u32) -> usize
 // The first bit of the station `i` behind the header.
 pub(crate) fn place_of(w: usize, i: u32) -> usize
     requires { (w ≤ 9) × (i < 2 ^ 20) }
-    ensures value { result ≡ placeOf w i }
+    ensures value { result ≡ place_for w i }
     ensures small { result ≤ 32 + 9 * i }
 {
     32 + w * i as usize
@@ -77,7 +77,7 @@ fn next_pair(
     last: (u32, u32),
 ) -> Result<(u32, u32), Refusal>
     requires width { w ≤ 9 }
-    requires place { reader.old.at ≡ placeOf w (2 * k) }
+    requires place { reader.old.at ≡ place_for w (2 * k) }
     requires small { reader.old.at < 2 ^ 31 }
     requires larger { 0 < k → last.0 ≡ value_at reader.old.bytes.now w (2 * k - 2) }
     requires smaller { 0 < k → last.1 ≡ value_at reader.old.bytes.now w (2 * k - 1) }
@@ -101,8 +101,8 @@ fn next_pair(
 fn check_pairs(reader: &mut BitReader<'_>, n: u32, w: usize, m: u32) -> Result<(), Refusal>
     requires small { (w ≤ 9) × (m < 2 ^ 17) }
     requires place { reader.old.at ≡ 32 }
-    ensures value { outcome result ≡ unless (firstFault (pairFault reader.old.bytes.now n w) m) tt }
-    ensures place { OnOk result (reader.new.at ≡ placeOf w (2 * m)) }
+    ensures value { outcome result ≡ unless (first_fault (pair_fault reader.old.bytes.now n w) m) tt }
+    ensures place { OnOk result (reader.new.at ≡ place_for w (2 * m)) }
     ensures bytes { reader.new.bytes.now ≡ reader.old.bytes.now }
 {
     let mut last = (0, 0);
@@ -115,9 +115,9 @@ fn check_pairs(reader: &mut BitReader<'_>, n: u32, w: usize, m: u32) -> Result<(
 // The stations of the order, whose first is the field `s`: each a station, none named before. It marks each one seen.
 fn check_stations(reader: &mut BitReader<'_>, n: u32, w: usize, s: u32) -> Result<(), Refusal>
     requires small { (w ≤ 9) × ((n ≤ 512) × (s < 2 ^ 18)) }
-    requires place { reader.old.at ≡ placeOf w s }
-    ensures value { outcome result ≡ unless (firstFault (placedFault reader.old.bytes.now n w s) n) tt }
-    ensures place { OnOk result (reader.new.at ≡ placeOf w (s + n)) }
+    requires place { reader.old.at ≡ place_for w s }
+    ensures value { outcome result ≡ unless (first_fault (placed_fault reader.old.bytes.now n w s) n) tt }
+    ensures place { OnOk result (reader.new.at ≡ place_for w (s + n)) }
     ensures bytes { reader.new.bytes.now ≡ reader.old.bytes.now }
 {
     let mut seen = no_marks();
@@ -135,7 +135,7 @@ fn check_stations(reader: &mut BitReader<'_>, n: u32, w: usize, s: u32) -> Resul
 // What follows the fields, which end at the bit `t`: zero bits in their last byte, and nothing more.
 fn check_end(sheet: &[u8], t: usize) -> Result<(), Refusal>
     requires { t < 2 ^ 31 }
-    ensures { outcome result ≡ unless (endFault sheet.now t) tt }
+    ensures { outcome result ≡ unless (end_fault sheet.now t) tt }
 {
     let whole = (t + 7) / 8;
     if sheet.len() != whole || field_of(sheet, t, 8 * whole - t) != 0 {
@@ -146,7 +146,7 @@ fn check_end(sheet: &[u8], t: usize) -> Result<(), Refusal>
 
 // The whole sheet, in one pass: what its header counts, or its first fault.
 pub(crate) fn check_sheet(sheet: &[u8]) -> Result<Header, Refusal>
-    ensures value { MatchResult result (λ h. decode sheet.now ≡ Ok (sheetOf sheet.now h.stations h.couplings)) (λ e. decode sheet.now ≡ Err (told e)) }
+    ensures value { MatchResult result (λ h. decode sheet.now ≡ Ok (sheet_of sheet.now h.stations h.couplings)) (λ e. decode sheet.now ≡ Err (told e)) }
     ensures stands { IfOk result (λ h. Stands sheet.now h.stations h.couplings) }
     ensures small { IfOk result (λ h. (1 ≤ h.stations) × (h.stations ≤ 512) × (h.couplings < 2 ^ 17)) }
 {

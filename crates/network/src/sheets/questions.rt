@@ -1,11 +1,11 @@
 //! The questions that a network on a packed sheet answers.
 //! Couplings are found in the packed fields themselves, by binary search.
 ghost use Rattle.std.specs.Prelude.{◌≡◌, ◌*◌, ◌^◌, ◌<◌, ◌≤◌};
-ghost use Rattle.network.specs.Decode.{Stands, sheetOf};
+ghost use Rattle.network.specs.Decode.{Stands, sheet_of};
 ghost use Rattle.network.specs.Parts.{key_at};
 ghost use Rattle.network.specs.SheetMeaning.{standing-lawful};
-ghost use Rattle.network.specs.SheetView.{sheetIn};
-ghost use Rattle.network.specs.Sheets.{hasPair, sheetNet};
+ghost use Rattle.network.specs.SheetView.{sheet_in};
+ghost use Rattle.network.specs.Sheets.{has_pair, sheet_net};
 
 use crate::bit_fields::field_of;
 use crate::net::Network;
@@ -24,7 +24,7 @@ fn key_at(sheet: &[u8], w: usize, k: u32) -> u32
 // Whether the sheet has the coupling. It halves the couplings in question at each turn.
 fn find_pair(sheet: &[u8], n: u32, m: u32, larger: u32, smaller: u32) -> bool
     requires { (Stands sheet.now n m) × ((larger < 512) × (smaller < 512)) }
-    ensures { result ≡ hasPair (sheetOf sheet.now n m).couplings larger smaller }
+    ensures { result ≡ has_pair (sheet_of sheet.now n m).couplings larger smaller }
 {
     let w = width_of(n);
     let wanted = larger * 512 + smaller;
@@ -46,7 +46,7 @@ fn find_pair(sheet: &[u8], n: u32, m: u32, larger: u32, smaller: u32) -> bool
 }
 
 impl<'a> Network for SheetNetwork<'a> {
-    ghost meaning = { λ network. sheetNet (sheetIn network) };
+    ghost meaning = { λ network. sheet_net (sheet_in network) };
 
     ghost lawful = { λ network. standing-lawful network.bytes.now network.size network.couplings network.some network.few };
 

@@ -1,10 +1,10 @@
 //! Reading a sheet: into a network place, and its order into a list of the caller's.
 //! A refused sheet leaves both as they were.
 ghost use Rattle.std.specs.Prelude.{◌≡◌, ◌^◌, ◌<◌, ◌≤◌, [], ◌∷◌, ◌++◌, length, drop, MatchResult};
-ghost use Rattle.network.specs.Decode.{order_of, reading, done, orderAfter, heldAfter};
+ghost use Rattle.network.specs.Decode.{order_of, reading, done, order_after, held_after};
 ghost use Rattle.network.specs.Refusals.{outcome};
-ghost use Rattle.network.specs.SheetView.{sheetIn};
-ghost use Rattle.network.specs.Sheets.{loneSheet};
+ghost use Rattle.network.specs.SheetView.{sheet_in};
+ghost use Rattle.network.specs.Sheets.{lone_sheet};
 
 use crate::bit_fields::field_of;
 use crate::refusal::Refusal;
@@ -18,7 +18,7 @@ impl<'a> SheetNetwork<'a> {
     /// A place that holds one lone station.
     pub fn lone() -> SheetNetwork<'a>
         ensures bytes { result.bytes.now ≡ 8 ∷ 2 ∷ 0 ∷ 0 ∷ 0 ∷ [] }
-        ensures sheet { sheetIn result ≡ loneSheet }
+        ensures sheet { sheet_in result ≡ lone_sheet }
     {
         SheetNetwork {
             bytes: &LONE,
@@ -48,8 +48,8 @@ pub fn read_sheet<'a>(
     order: &mut [u16],
 ) -> Result<(), Refusal>
     ensures answer { outcome result ≡ done (reading sheet.now (length order.old)) }
-    ensures order { order.new ≡ orderAfter (reading sheet.now (length order.old)) order.old }
-    ensures held { sheetIn place.new ≡ heldAfter (reading sheet.now (length order.old)) (sheetIn place.old) }
+    ensures order { order.new ≡ order_after (reading sheet.now (length order.old)) order.old }
+    ensures held { sheet_in place.new ≡ held_after (reading sheet.now (length order.old)) (sheet_in place.old) }
     ensures place { MatchResult result (λ _. place.new.bytes.now ≡ sheet.now) (λ _. place.new ≡ place.old) }
 {
     let counts = check_sheet(sheet)?;

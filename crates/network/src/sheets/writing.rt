@@ -1,11 +1,11 @@
 //! Writing a network and one of its orders as a sheet, into bytes of the caller's.
 //! A refused writing leaves the bytes as they were.
 ghost use Rattle.std.specs.Prelude.{◌≡◌, ℕ, ◌+◌, ◌*◌, ◌^◌, ◌<◌, ◌≤◌, [], ◌∷◌, length, replicate, None, slice_index};
-ghost use Rattle.network.specs.Encode.{bytes_of, writeFault, bufferAfter};
-ghost use Rattle.network.specs.Orders.{orderFault};
+ghost use Rattle.network.specs.Encode.{bytes_of, write_fault, buffer_after};
+ghost use Rattle.network.specs.Orders.{order_fault};
 ghost use Rattle.network.specs.Refusals.{outcome, unless};
-ghost use Rattle.network.specs.Sheets.{width, spread, rowTo, pairsTo};
-ghost use Rattle.network.specs.Writing.{HasRoom, Puts, head_bits, pairBits};
+ghost use Rattle.network.specs.Sheets.{width, spread, row_to, pairs_to};
+ghost use Rattle.network.specs.Writing.{HasRoom, Puts, head_bits, pair_bits};
 
 use crate::bit_fields::BitWriter;
 use crate::net::Network;
@@ -29,8 +29,8 @@ fn put_head(writer: &mut BitWriter<'_>, counts: Header)
 fn put_pair(writer: &mut BitWriter<'_>, w: usize, larger: u16, smaller: u16)
     requires width { w ≤ 9 }
     requires fit { (larger < 2 ^ w) × (smaller < 2 ^ w) }
-    requires room { HasRoom writer.old (pairBits w ((larger, smaller) ∷ [])) }
-    ensures { Puts writer.old writer.new (pairBits w ((larger, smaller) ∷ [])) }
+    requires room { HasRoom writer.old (pair_bits w ((larger, smaller) ∷ [])) }
+    ensures { Puts writer.old writer.new (pair_bits w ((larger, smaller) ∷ [])) }
 {
     writer.put(w, larger as u32);
     writer.put(w, smaller as u32);
@@ -40,8 +40,8 @@ fn put_pair(writer: &mut BitWriter<'_>, w: usize, larger: u16, smaller: u16)
 fn put_row<N: Network>(writer: &mut BitWriter<'_>, network: &N, w: usize, a: u16)
     requires width { w ≤ 9 }
     requires fit { a < 2 ^ w }
-    requires room { HasRoom writer.old (pairBits w (rowTo (N.Network.meaning network.now).coupled a a)) }
-    ensures { Puts writer.old writer.new (pairBits w (rowTo (N.Network.meaning network.now).coupled a a)) }
+    requires room { HasRoom writer.old (pair_bits w (row_to (N.Network.meaning network.now).coupled a a)) }
+    ensures { Puts writer.old writer.new (pair_bits w (row_to (N.Network.meaning network.now).coupled a a)) }
 {
     for b in 0..a {
         if network.coupled(a, b) {
@@ -53,8 +53,8 @@ fn put_row<N: Network>(writer: &mut BitWriter<'_>, network: &N, w: usize, a: u16
 // Writes the couplings, rising by larger and then smaller station. It asks once for each two stations.
 fn put_pairs<N: Network>(writer: &mut BitWriter<'_>, network: &N, w: usize)
     requires width { w ≡ width (N.Network.meaning network.now).size }
-    requires room { HasRoom writer.old (pairBits w (pairsTo (N.Network.meaning network.now).coupled (N.Network.meaning network.now).size)) }
-    ensures { Puts writer.old writer.new (pairBits w (pairsTo (N.Network.meaning network.now).coupled (N.Network.meaning network.now).size)) }
+    requires room { HasRoom writer.old (pair_bits w (pairs_to (N.Network.meaning network.now).coupled (N.Network.meaning network.now).size)) }
+    ensures { Puts writer.old writer.new (pair_bits w (pairs_to (N.Network.meaning network.now).coupled (N.Network.meaning network.now).size)) }
 {
     let n = network.size();
     for a in 0..n {
@@ -85,7 +85,7 @@ fn clear(bytes: &mut [u8])
 
 // How many couplings a station has with those below it. It asks once for each of them.
 fn count_row<N: Network>(network: &N, station: u16) -> u32
-    ensures value { result ≡ length (rowTo (N.Network.meaning network.now).coupled station station) }
+    ensures value { result ≡ length (row_to (N.Network.meaning network.now).coupled station station) }
     ensures small { result ≤ station }
 {
     let mut couplings = 0;
@@ -99,7 +99,7 @@ fn count_row<N: Network>(network: &N, station: u16) -> u32
 
 /// How many couplings the network has. It asks once for each two stations.
 pub fn count_couplings<N: Network>(network: &N) -> u32
-    ensures value { result ≡ length (pairsTo (N.Network.meaning network.now).coupled (N.Network.meaning network.now).size) }
+    ensures value { result ≡ length (pairs_to (N.Network.meaning network.now).coupled (N.Network.meaning network.now).size) }
     ensures small { result < 2 ^ 17 }
 {
     let n = network.size();
@@ -112,8 +112,8 @@ pub fn count_couplings<N: Network>(network: &N) -> u32
 
 // Writes the whole sheet into bytes of exactly its length.
 fn put_sheet<N: Network>(network: &N, order: &[u16], couplings: u32, out: &mut [u8])
-    requires order { orderFault order.now (N.Network.meaning network.now).size ≡ None }
-    requires count { couplings ≡ length (pairsTo (N.Network.meaning network.now).coupled (N.Network.meaning network.now).size) }
+    requires order { order_fault order.now (N.Network.meaning network.now).size ≡ None }
+    requires count { couplings ≡ length (pairs_to (N.Network.meaning network.now).coupled (N.Network.meaning network.now).size) }
     requires long { length out.old ≡ length (bytes_of (N.Network.meaning network.now) order.now) }
     ensures { out.new ≡ bytes_of (N.Network.meaning network.now) order.now }
 {
@@ -136,8 +136,8 @@ fn put_sheet<N: Network>(network: &N, order: &[u16], couplings: u32, out: &mut [
 /// The bytes behind it stay, as do all of them on a refusal.
 /// It asks the network twice for each two stations, once to count the couplings and once to write them.
 pub fn write_sheet<N: Network>(network: &N, order: &[u16], out: &mut [u8]) -> Result<usize, Refusal>
-    ensures answer { outcome result ≡ unless (writeFault (N.Network.meaning network.now) order.now (length out.old)) (length (bytes_of (N.Network.meaning network.now) order.now)) }
-    ensures out { out.new ≡ bufferAfter (writeFault (N.Network.meaning network.now) order.now (length out.old)) (bytes_of (N.Network.meaning network.now) order.now) out.old }
+    ensures answer { outcome result ≡ unless (write_fault (N.Network.meaning network.now) order.now (length out.old)) (length (bytes_of (N.Network.meaning network.now) order.now)) }
+    ensures out { out.new ≡ buffer_after (write_fault (N.Network.meaning network.now) order.now (length out.old)) (bytes_of (N.Network.meaning network.now) order.now) out.old }
 {
     let n = network.size();
     check_order(n, order)?;

@@ -1,16 +1,16 @@
 //! How plans are made and changed. Every plan comes from `settled`, which makes the filled pairs of its order.
 ghost use Rattle.std.specs.Prelude.{◌≡◌, ◌<◌, ◌≤◌, true, false, [], IfOk, if◌then◌else◌, Some, Ok, nat_lt};
-ghost use Rattle.network.specs.Orders.{orderFault};
+ghost use Rattle.network.specs.Orders.{order_fault};
 ghost use Rattle.network.specs.Refusals.{outcome, unless};
 ghost use Rattle.elimination.specs.Elimination.{Minimal, fill, filled};
 ghost use Rattle.elimination.specs.Graphs.{Simple, Sub, closed};
 ghost use Rattle.elimination.specs.Orders.{last_of, up_to};
 ghost use Rattle.elimination.specs.View.{graph, listed, listing};
-ghost use Rattle.plan_parts.specs.PlanStates.{Extends, PlanHistory, Seats, Tightens, afterLoad, oneRefused, opening, withOrder};
+ghost use Rattle.plan_parts.specs.PlanStates.{Extends, PlanHistory, Seats, Tightens, after_load, one_refused, opening, with_order};
 ghost use Rattle.plan_parts.specs.PlanStates.Asked.{freeze, load, seat, tighten};
 ghost use Rattle.plan_parts.specs.PlanView.{view};
-ghost use Rattle.plan_parts.specs.Reserves.{byPosition, known};
-ghost use Rattle.plan_parts.specs.ReserveView.{filledIn, order_in, sizeIn};
+ghost use Rattle.plan_parts.specs.Reserves.{by_position, known};
+ghost use Rattle.plan_parts.specs.ReserveView.{filled_in, order_in, size_in};
 
 use super::Plan;
 use super::couplings::couplings_of;
@@ -46,7 +46,7 @@ impl Plan {
     /// Puts another order of the same stations in place, with its filled pairs.
     fn settle(&mut self, order: EliminationOrder)
         requires { order.size ≡ self.old.order.size }
-        ensures { view self.new ≡ withOrder (view self.old) (listed order) }
+        ensures { view self.new ≡ with_order (view self.old) (listed order) }
     {
         let couplings = self.couplings.copy();
         *self = settled(couplings, order, self.refused);
@@ -54,14 +54,14 @@ impl Plan {
 
     /// Counts a refused call.
     fn refuse(&mut self)
-        ensures { view self.new ≡ oneRefused (view self.old) }
+        ensures { view self.new ≡ one_refused (view self.old) }
     {
         self.refused = self.refused.saturating_add(1);
     }
 
     /// The order that a list gives the plan's stations, or why it gives none.
     fn order_from(&self, list: &[u16]) -> Result<EliminationOrder, Refusal>
-        ensures value { listing result ≡ unless (orderFault list.now (view self.now).net.size) list.now }
+        ensures value { listing result ≡ unless (order_fault list.now (view self.now).net.size) list.now }
         ensures size { IfOk result (λ order. order.size ≡ self.now.order.size) }
     {
         EliminationOrder::from_list(self.order.size(), list)
@@ -69,8 +69,8 @@ impl Plan {
 
     /// Makes a list the plan's order, or says why it is none. It walks the list three times, and makes the filled pairs.
     pub fn load(&mut self, order: &[u16]) -> Result<(), Refusal>
-        ensures value { outcome result ≡ unless (orderFault order.now (view self.old).net.size) tt }
-        ensures state { view self.new ≡ afterLoad (view self.old) order.now }
+        ensures value { outcome result ≡ unless (order_fault order.now (view self.old).net.size) tt }
+        ensures state { view self.new ≡ after_load (view self.old) order.now }
         ensures history { Extends (load order.now) (view self.old) (view self.new) }
     {
         match self.order_from(order) {
@@ -97,7 +97,7 @@ impl Plan {
     /// Leaves an order with no new fill, and such that no order has a fill that is a proper part of its fill.
     pub fn tighten(&mut self)
         ensures tightens { Tightens (view self.old).net (view self.old).order (view self.new).order }
-        ensures kept { view self.new ≡ withOrder (view self.old) (view self.new).order }
+        ensures kept { view self.new ≡ with_order (view self.old) (view self.new).order }
         ensures history { Extends tighten (view self.old) (view self.new) }
     {
         let order = self.tighter();
@@ -117,7 +117,7 @@ impl Plan {
     /// Leaves an order with no new fill in which the station is last.
     pub fn seat(&mut self, station: u16) -> Result<(), Refusal>
         ensures value { outcome result ≡ known (view self.old).net.size station (Ok tt) }
-        ensures state { view self.new ≡ (if nat_lt station (view self.old).net.size then withOrder (view self.old) (view self.new).order else oneRefused (view self.old)) }
+        ensures state { view self.new ≡ (if nat_lt station (view self.old).net.size then with_order (view self.old) (view self.new).order else one_refused (view self.old)) }
         ensures seats { station < (view self.old).net.size → Seats (view self.old).net station (view self.old).order (view self.new).order }
         ensures history { Extends (seat station) (view self.old) (view self.new) }
     {
@@ -143,9 +143,9 @@ impl Plan {
 
     /// The reserve of the plan's order: a few word steps for each filled pair.
     fn reserve(&self) -> Reserve
-        ensures size { sizeIn result ≡ (view self.now).net.size }
+        ensures size { size_in result ≡ (view self.now).net.size }
         ensures order { order_in result ≡ (view self.now).order }
-        ensures pairs { filledIn result ≡ byPosition (graph self.now.pairs) (order_in result) }
+        ensures pairs { filled_in result ≡ by_position (graph self.now.pairs) (order_in result) }
     {
         let order = self.same_order();
         Reserve::settled(order, &self.pairs)
@@ -153,9 +153,9 @@ impl Plan {
 
     /// Puts the reserve of the plan's order into a place, and takes out what it held.
     pub fn freeze(&self, place: &mut Reserve)
-        ensures size { sizeIn place.new ≡ (view self.now).net.size }
+        ensures size { size_in place.new ≡ (view self.now).net.size }
         ensures order { order_in place.new ≡ (view self.now).order }
-        ensures pairs { filledIn place.new ≡ byPosition (filled (view self.now).net.coupled (view self.now).order) (view self.now).order }
+        ensures pairs { filled_in place.new ≡ by_position (filled (view self.now).net.coupled (view self.now).order) (view self.now).order }
         ensures history { Extends freeze (view self.now) (view self.now) }
     {
         *place = self.reserve();

@@ -3,7 +3,7 @@
 ghost use Rattle.std.specs.Prelude.{◌≡◌, ◌<◌, if◌then◌else◌};
 ghost use Rattle.elimination.specs.View.{graph};
 ghost use Rattle.elimination.specs.Graphs.{including, union};
-ghost use Rattle.plan_parts.specs.Plans.{pairsBelow};
+ghost use Rattle.plan_parts.specs.Plans.{pairs_below};
 
 use elimination::PairSet;
 use network::Network;
@@ -22,7 +22,7 @@ fn insert_if(set: &mut PairSet, a: u16, b: u16, wanted: bool)
 /// Puts in the couplings of station `a` with smaller stations: one question for each of those.
 fn take_row<N: Network>(set: &mut PairSet, network: &N, a: u16)
     requires { a < (N.Network.meaning network.now).size }
-    ensures { graph set.new ≡ union (graph set.old) (pairsBelow (N.Network.meaning network.now).coupled a a) }
+    ensures { graph set.new ≡ union (graph set.old) (pairs_below (N.Network.meaning network.now).coupled a a) }
 {
     for b in 0..a {
         let wanted = network.coupled(a, b);

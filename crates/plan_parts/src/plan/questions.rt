@@ -3,9 +3,9 @@ ghost use Rattle.std.specs.Prelude.{◌≡◌, false, IfOk, Ok, slice_index};
 ghost use Rattle.network.specs.Refusals.{outcome};
 ghost use Rattle.elimination.specs.Elimination as elimination;
 ghost use Rattle.elimination.specs.Orders.{position_of};
-ghost use Rattle.plan_parts.specs.OrderLists.{orderWritten, room_for};
+ghost use Rattle.plan_parts.specs.OrderLists.{order_written, room_for};
 ghost use Rattle.plan_parts.specs.PlanStates.{Asks};
-ghost use Rattle.plan_parts.specs.PlanStates.Question.{count_of, is-filled, parent_of, position-of, refused-number, station-at, total-fill, whole-order};
+ghost use Rattle.plan_parts.specs.PlanStates.Question.{count_of, pair_filled, parent_of, position_of_station, refused_number, station_at_position, total_fill, whole_order};
 ghost use Rattle.plan_parts.specs.PlanView.{view};
 ghost use Rattle.plan_parts.specs.Reserves.{known};
 
@@ -18,7 +18,7 @@ impl Plan {
     /// The position of a station.
     pub fn position(&self, station: u16) -> Result<u16, Refusal>
         ensures value { outcome result ≡ known (view self.now).net.size station (Ok (position_of (view self.now).order station)) }
-        ensures history { Asks (position-of station) (view self.now) }
+        ensures history { Asks (position_of_station station) (view self.now) }
     {
         position_in(&self.order, station)
     }
@@ -26,7 +26,7 @@ impl Plan {
     /// The station at a position.
     pub fn station(&self, position: u16) -> Result<u16, Refusal>
         ensures value { outcome result ≡ known (view self.now).net.size position (Ok (slice_index (view self.now).order position)) }
-        ensures history { Asks (station-at position) (view self.now) }
+        ensures history { Asks (station_at_position position) (view self.now) }
     {
         station_in(&self.order, position)
     }
@@ -43,7 +43,7 @@ impl Plan {
     pub fn filled(&self, a: u16, b: u16) -> Result<bool, Refusal>
         ensures value { outcome result ≡ known (view self.now).net.size a (known (view self.now).net.size b (Ok (elimination.filled (view self.now).net.coupled (view self.now).order a b))) }
         ensures same { a ≡ b → IfOk result (λ paired. paired ≡ false) }
-        ensures history { Asks (is-filled a b) (view self.now) }
+        ensures history { Asks (pair_filled a b) (view self.now) }
     {
         self.is_filled(a, b)
     }
@@ -59,7 +59,7 @@ impl Plan {
     /// How many pairs are in the plan's fill: sixteen word steps for each station.
     pub fn total(&self) -> u32
         ensures value { result ≡ elimination.total (view self.now).net.size (view self.now).net.coupled (view self.now).order }
-        ensures history { Asks total-fill (view self.now) }
+        ensures history { Asks total_fill (view self.now) }
     {
         total_of(&self.couplings, &self.pairs, &self.order)
     }
@@ -67,7 +67,7 @@ impl Plan {
     /// How many calls of load and seat were refused, at most 65,535.
     pub fn refused(&self) -> u16
         ensures value { result ≡ (view self.now).refused }
-        ensures history { Asks refused-number (view self.now) }
+        ensures history { Asks refused_number (view self.now) }
     {
         self.refused
     }
@@ -75,8 +75,8 @@ impl Plan {
     /// Writes the order to the front of a list: one step for each station.
     pub fn order(&self, out: &mut [u16]) -> Result<(), Refusal>
         ensures value { outcome result ≡ room_for (view self.now).net.size out.old }
-        ensures written { out.new ≡ orderWritten (view self.now).net.size (view self.now).order out.old }
-        ensures history { Asks whole-order (view self.now) }
+        ensures written { out.new ≡ order_written (view self.now).net.size (view self.now).order out.old }
+        ensures history { Asks whole_order (view self.now) }
     {
         write_order(&self.order, out)
     }

@@ -3,7 +3,7 @@
 ghost use Rattle.std.specs.Prelude.{map};
 ghost use Rattle.plan_parts.specs.PlanCalls.{asked};
 ghost use Rattle.plan_parts.specs.PlanLaws.{FillKept};
-ghost use Rattle.plan_parts.specs.PlanStates.{Extends, Replayed, givenBy, tightBy};
+ghost use Rattle.plan_parts.specs.PlanStates.{Extends, Replayed, given_by, tight_by};
 ghost use Rattle.plan_parts.specs.PlanView.{view};
 
 use super::Plan;
@@ -30,7 +30,7 @@ impl Plan {
 /// Opens a plan on a network and makes the calls in turn; those that are refused are counted.
 pub fn replay_plan<N: Network>(network: &N, calls: &[PlanCall<'_>]) -> Plan
     ensures history { Replayed (N.Network.meaning network.now) (map asked calls.now) (view result) }
-    ensures kept { FillKept (N.Network.meaning network.now) (givenBy (N.Network.meaning network.now).size (map asked calls.now)) (tightBy (N.Network.meaning network.now).size (map asked calls.now)) (view result).order }
+    ensures kept { FillKept (N.Network.meaning network.now) (given_by (N.Network.meaning network.now).size (map asked calls.now)) (tight_by (N.Network.meaning network.now).size (map asked calls.now)) (view result).order }
 {
     let mut plan = Plan::open(network);
     for call in calls {

@@ -6,9 +6,9 @@ ghost use Rattle.network.specs.Laws.{FirstIs};
 ghost use Rattle.network.specs.Refusals.{outcome};
 ghost use Rattle.elimination.specs.Orders.{position_of};
 ghost use Rattle.plan_parts.specs.Layout.{cell, places};
-ghost use Rattle.plan_parts.specs.OrderLists.{orderWritten, room_for};
-ghost use Rattle.plan_parts.specs.Reserves.{byPosition, hasPlace, known, nextInColumn, placeOfStations};
-ghost use Rattle.plan_parts.specs.ReserveView.{filledIn, order_in, sizeIn};
+ghost use Rattle.plan_parts.specs.OrderLists.{order_written, room_for};
+ghost use Rattle.plan_parts.specs.Reserves.{by_position, has_place, known, next_of_column, place_of_stations};
+ghost use Rattle.plan_parts.specs.ReserveView.{filled_in, order_in, size_in};
 
 use super::Reserve;
 use super::parts::{by_positions, column_starts};
@@ -19,9 +19,9 @@ use network::Refusal;
 impl Reserve {
     /// The reserve of one station.
     pub fn lone() -> Reserve
-        ensures sizes { sizeIn result ≡ 1 }
+        ensures sizes { size_in result ≡ 1 }
         ensures order { order_in result ≡ 0 ∷ [] }
-        ensures pairs { (i j : ℕ) → filledIn result i j ≡ false }
+        ensures pairs { (i j : ℕ) → filled_in result i j ≡ false }
     {
         let order = EliminationOrder::rising(1);
         let pairs = PairSet::empty();
@@ -39,7 +39,7 @@ impl Reserve {
         requires simple { Simple order.size (graph pairs.now) }
         requires closed { closed (graph pairs.now) (listed order) ≡ true }
         ensures order { result.order ≡ order }
-        ensures pairs { filledIn result ≡ byPosition (graph pairs.now) (listed order) }
+        ensures pairs { filled_in result ≡ by_position (graph pairs.now) (listed order) }
     {
         let pairs = by_positions(pairs, &order);
         let starts = column_starts(&pairs, order.size() as usize);
@@ -52,7 +52,7 @@ impl Reserve {
 
     /// How many stations there are.
     pub fn size(&self) -> u16
-        ensures value { result ≡ sizeIn self.now }
+        ensures value { result ≡ size_in self.now }
         ensures some { 1 ≤ result }
         ensures few { result ≤ 512 }
     {
@@ -61,7 +61,7 @@ impl Reserve {
 
     /// How many places there are.
     pub fn length(&self) -> usize
-        ensures value { result ≡ places (filledIn self.now) (sizeIn self.now) }
+        ensures value { result ≡ places (filled_in self.now) (size_in self.now) }
         ensures small { result ≤ 131328 }
     {
         self.starts[self.order.size() as usize] as usize
@@ -69,7 +69,7 @@ impl Reserve {
 
     /// The number of the place in row `i` and column `j`, by positions: at most eight word steps.
     pub fn cell(&self, i: usize, j: usize) -> Option<usize>
-        ensures { result ≡ cell (filledIn self.now) (sizeIn self.now) i j }
+        ensures { result ≡ cell (filled_in self.now) (size_in self.now) i j }
     {
         if i >= self.order.size() as usize || j > i {
             return None;
@@ -86,8 +86,8 @@ impl Reserve {
 
     /// The smallest position not below `from` that has a place in the column: at most eight word steps.
     pub fn next_in_column(&self, column: usize, from: usize) -> Option<usize>
-        ensures value { result ≡ nextInColumn (filledIn self.now) (sizeIn self.now) column from }
-        ensures first { FirstIs (hasPlace (filledIn self.now) (sizeIn self.now) column) from 512 result }
+        ensures value { result ≡ next_of_column (filled_in self.now) (size_in self.now) column from }
+        ensures first { FirstIs (has_place (filled_in self.now) (size_in self.now) column) from 512 result }
     {
         if column >= self.order.size() as usize {
             return None;
@@ -100,24 +100,24 @@ impl Reserve {
 
     /// The position of a station.
     pub fn position(&self, station: u16) -> Result<u16, Refusal>
-        ensures value { outcome result ≡ known (sizeIn self.now) station (Ok (position_of (order_in self.now) station)) }
+        ensures value { outcome result ≡ known (size_in self.now) station (Ok (position_of (order_in self.now) station)) }
         ensures there { IfOk result (λ k. slice_index (order_in self.now) k ≡ station) }
-        ensures small { IfOk result (λ k. k < sizeIn self.now) }
+        ensures small { IfOk result (λ k. k < size_in self.now) }
     {
         position_in(&self.order, station)
     }
 
     /// The station at a position.
     pub fn station(&self, position: u16) -> Result<u16, Refusal>
-        ensures value { outcome result ≡ known (sizeIn self.now) position (Ok (slice_index (order_in self.now) position)) }
-        ensures small { IfOk result (λ s. s < sizeIn self.now) }
+        ensures value { outcome result ≡ known (size_in self.now) position (Ok (slice_index (order_in self.now) position)) }
+        ensures small { IfOk result (λ s. s < size_in self.now) }
     {
         station_in(&self.order, position)
     }
 
     /// The number of the place of two stations, or none: the same station twice has its diagonal. At most eight word steps.
     pub fn place(&self, a: u16, b: u16) -> Result<Option<usize>, Refusal>
-        ensures { outcome result ≡ known (sizeIn self.now) a (known (sizeIn self.now) b (Ok (placeOfStations (filledIn self.now) (sizeIn self.now) (order_in self.now) a b))) }
+        ensures { outcome result ≡ known (size_in self.now) a (known (size_in self.now) b (Ok (place_of_stations (filled_in self.now) (size_in self.now) (order_in self.now) a b))) }
     {
         let i = self.position(a)? as usize;
         let j = self.position(b)? as usize;
@@ -126,8 +126,8 @@ impl Reserve {
 
     /// Writes the order to the front of a list: one step for each station.
     pub fn order(&self, out: &mut [u16]) -> Result<(), Refusal>
-        ensures value { outcome result ≡ room_for (sizeIn self.now) out.old }
-        ensures written { out.new ≡ orderWritten (sizeIn self.now) (order_in self.now) out.old }
+        ensures value { outcome result ≡ room_for (size_in self.now) out.old }
+        ensures written { out.new ≡ order_written (size_in self.now) (order_in self.now) out.old }
     {
         write_order(&self.order, out)
     }

@@ -1,32 +1,32 @@
 //! What holds of the reserves of orders: which pairs have places, and why.
 //! Each law is the contract of a function that answers 0.
-ghost use Rattle.plan_parts.specs.Layout.{No-gap};
-ghost use Rattle.plan_parts.specs.ReserveLaws.{Filled-pairs-are-grounded, Filled-places-are-closed, Places-for-filled-pairs};
+ghost use Rattle.plan_parts.specs.Layout.{NoGap};
+ghost use Rattle.plan_parts.specs.ReserveLaws.{FilledPairsAreGrounded, FilledPlacesAreClosed, PlacesForFilledPairs};
 
 /// The places of every reserve are numbered from 0 without gap and without repeat.
 pub fn places_have_no_gap() -> u8
-    ensures { No-gap }
+    ensures { NoGap }
 {
     0
 }
 
 /// In the reserve of an order, two stations have a place exactly if they are the same one or form a filled pair.
 pub fn places_for_filled_pairs() -> u8
-    ensures { Places-for-filled-pairs }
+    ensures { PlacesForFilledPairs }
 {
     0
 }
 
 /// In the reserve of an order, two later stations with a place in one column have one for their own pair.
 pub fn filled_places_are_closed() -> u8
-    ensures { Filled-places-are-closed }
+    ensures { FilledPlacesAreClosed }
 {
     0
 }
 
 /// Every filled pair is a coupling, or an earlier station forms filled pairs with both.
 pub fn filled_pairs_are_grounded() -> u8
-    ensures { Filled-pairs-are-grounded }
+    ensures { FilledPairsAreGrounded }
 {
     0
 }

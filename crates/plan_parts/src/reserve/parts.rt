@@ -1,9 +1,9 @@
 //! The parts of a reserve: the filled pairs by positions, and where each column begins.
 //! The pairs come by stations; by positions, a rank in a column is one count over a row.
 ghost use Rattle.std.specs.Prelude.{◌≡◌, ℕ, ◌<◌, ◌≤◌, slice_index};
-ghost use Rattle.elimination.specs.Graphs.{Simple, pairsAt, union};
+ghost use Rattle.elimination.specs.Graphs.{Simple, pairs_at, union};
 ghost use Rattle.elimination.specs.View.{graph, listed};
-ghost use Rattle.plan_parts.specs.Reserves.{Begins, byPosition};
+ghost use Rattle.plan_parts.specs.Reserves.{Begins, by_position};
 
 use elimination::{EliminationOrder, PairSet};
 
@@ -11,7 +11,7 @@ use elimination::{EliminationOrder, PairSet};
 fn place_pairs(placed: &mut PairSet, pairs: &PairSet, order: &EliminationOrder, i: u16)
     requires position { i < order.now.size }
     requires simple { Simple order.now.size (graph pairs.now) }
-    ensures { graph placed.new ≡ union (graph placed.old) (pairsAt (byPosition (graph pairs.now) (listed order.now)) i) }
+    ensures { graph placed.new ≡ union (graph placed.old) (pairs_at (by_position (graph pairs.now) (listed order.now)) i) }
 {
     let a = order.station(i) as usize;
     let mut from = 0;
@@ -24,7 +24,7 @@ fn place_pairs(placed: &mut PairSet, pairs: &PairSet, order: &EliminationOrder, 
 /// The pairs by positions in the order: a few word steps for each.
 pub(crate) fn by_positions(pairs: &PairSet, order: &EliminationOrder) -> PairSet
     requires { Simple order.now.size (graph pairs.now) }
-    ensures { graph result ≡ byPosition (graph pairs.now) (listed order.now) }
+    ensures { graph result ≡ by_position (graph pairs.now) (listed order.now) }
 {
     let mut placed = PairSet::empty();
     for i in 0..order.size() {

@@ -1,13 +1,13 @@
 //! How a run starts, takes entries, and begins to make pivots.
 ghost use Rattle.std.specs.Prelude.{◌≡◌, false, length, IfOk, Ok};
 ghost use Rattle.network.specs.Refusals.{outcome};
-ghost use Rattle.plan_parts.specs.ReserveView.{filledIn, order_in, sizeIn};
+ghost use Rattle.plan_parts.specs.ReserveView.{filled_in, order_in, size_in};
 ghost use Rattle.run_parts.specs.Histories.Stage.{loading, running};
 ghost use Rattle.run_parts.specs.Kinds.{kind};
-ghost use Rattle.run_parts.specs.Outcomes.{cleared, putOutcome, putPlaces, putSquare, roomy, stored};
-ghost use Rattle.run_parts.specs.Places.{place_in, placesIn};
+ghost use Rattle.run_parts.specs.Outcomes.{cleared, put_outcome, put_places, put_square, roomy, stored};
+ghost use Rattle.run_parts.specs.Places.{place_in, places_in};
 ghost use Rattle.run_parts.specs.Square.{empty};
-ghost use Rattle.run_parts.specs.Views.{Goes_on, History, Hold, Turns, loaded};
+ghost use Rattle.run_parts.specs.Views.{GoesOn, History, Hold, Turns, loaded};
 
 use super::{Loading, Running};
 use crate::kinds::Entry;
@@ -23,8 +23,8 @@ pub fn start<'r, E: Entry>(
     entries: &[E],
     marks: &mut [u8],
 ) -> Result<Loading<'r, E>, Refusal>
-    ensures value { loaded result ≡ roomy (placesIn reserve.now) (length entries.now) (length marks.old) (Ok reserve.now) }
-    ensures marks { marks.new ≡ cleared (loaded result) (placesIn reserve.now) marks.old }
+    ensures value { loaded result ≡ roomy (places_in reserve.now) (length entries.now) (length marks.old) (Ok reserve.now) }
+    ensures marks { marks.new ≡ cleared (loaded result) (places_in reserve.now) marks.old }
     ensures history { IfOk result (λ l. History (kind E.Entry.usable E.Entry.first E.Entry.more) l.reserve.now loading 0 empty (λ i j. false) × Hold l.reserve.now entries.now marks.new empty) }
 {
     if let Err(refusal) = check_room(reserve.length(), entries, marks) {
@@ -48,10 +48,10 @@ impl<'r, E: Entry> Loading<'r, E> {
         b: u16,
         value: E,
     ) -> Result<(), Refusal>
-        ensures value { outcome result ≡ putOutcome (filledIn self.now.reserve.now) (sizeIn self.now.reserve.now) (order_in self.now.reserve.now) (length entries.old) (length marks.old) a b }
+        ensures value { outcome result ≡ put_outcome (filled_in self.now.reserve.now) (size_in self.now.reserve.now) (order_in self.now.reserve.now) (length entries.old) (length marks.old) a b }
         ensures entries { entries.new ≡ stored (outcome result) (place_in self.now.reserve.now a b) value entries.old }
         ensures marks { marks.new ≡ stored (outcome result) (place_in self.now.reserve.now a b) 1 marks.old }
-        ensures history { Goes_on (kind E.Entry.usable E.Entry.first E.Entry.more) self.now.reserve.now loading 0 entries.old marks.old 0 entries.new marks.new (putSquare (order_in self.now.reserve.now) a b value (outcome result)) (putPlaces (order_in self.now.reserve.now) a b (outcome result)) }
+        ensures history { GoesOn (kind E.Entry.usable E.Entry.first E.Entry.more) self.now.reserve.now loading 0 entries.old marks.old 0 entries.new marks.new (put_square (order_in self.now.reserve.now) a b value (outcome result)) (put_places (order_in self.now.reserve.now) a b (outcome result)) }
     {
         let place = checked_place(self.reserve, entries, marks, a, b)?;
         let Some(p) = place else {

@@ -1,12 +1,12 @@
 //! How a run makes its pivots, one for each step, and ends.
 ghost use Rattle.std.specs.Prelude.{◌≡◌, ◌+◌, ◌<◌, length, if◌then◌else◌, ◌==◌};
 ghost use Rattle.network.specs.Refusals.{outcome};
-ghost use Rattle.plan_parts.specs.ReserveView.{filledIn, sizeIn};
+ghost use Rattle.plan_parts.specs.ReserveView.{filled_in, size_in};
 ghost use Rattle.run_parts.specs.Histories.Stage.{ended, running};
 ghost use Rattle.run_parts.specs.Kinds.{kind};
-ghost use Rattle.run_parts.specs.Outcomes.{isMade, stepEntries, stepMarks, stepOutcome, stepSquare};
-ghost use Rattle.run_parts.specs.Places.{placesIn};
-ghost use Rattle.run_parts.specs.Views.{Goes_on, Turns, tableSquare};
+ghost use Rattle.run_parts.specs.Outcomes.{is_made, step_entries, step_marks, step_outcome, step_square};
+ghost use Rattle.run_parts.specs.Places.{places_in};
+ghost use Rattle.run_parts.specs.Views.{GoesOn, Turns, table_square};
 
 use super::{Ended, Running, Step};
 use crate::kinds::Entry;
@@ -21,11 +21,11 @@ impl<'r, E: Entry> Running<'r, E> {
     /// unusable. About the square of the length of the pivot's column.
     pub fn step(&mut self, entries: &mut [E], marks: &mut [u8]) -> Result<Step, Refusal>
         ensures reserve { self.new.reserve.now ≡ self.old.reserve.now }
-        ensures value { outcome result ≡ stepOutcome (kind E.Entry.usable E.Entry.first E.Entry.more) (placesIn self.old.reserve.now) (length entries.old) (length marks.old) (sizeIn self.old.reserve.now) self.old.made (tableSquare self.old.reserve.now entries.old marks.old self.old.made self.old.made) }
-        ensures made { self.new.made ≡ (if isMade (outcome result) then self.old.made + 1 else self.old.made) }
-        ensures entries { entries.new ≡ stepEntries (kind E.Entry.usable E.Entry.first E.Entry.more) (filledIn self.old.reserve.now) (sizeIn self.old.reserve.now) self.old.made (outcome result) entries.old marks.old }
-        ensures marks { marks.new ≡ stepMarks (kind E.Entry.usable E.Entry.first E.Entry.more) (filledIn self.old.reserve.now) (sizeIn self.old.reserve.now) self.old.made (outcome result) entries.old marks.old }
-        ensures history { Goes_on (kind E.Entry.usable E.Entry.first E.Entry.more) self.old.reserve.now running self.old.made entries.old marks.old self.new.made entries.new marks.new (stepSquare (kind E.Entry.usable E.Entry.first E.Entry.more) self.old.made (outcome result)) (λ put. put) }
+        ensures value { outcome result ≡ step_outcome (kind E.Entry.usable E.Entry.first E.Entry.more) (places_in self.old.reserve.now) (length entries.old) (length marks.old) (size_in self.old.reserve.now) self.old.made (table_square self.old.reserve.now entries.old marks.old self.old.made self.old.made) }
+        ensures made { self.new.made ≡ (if is_made (outcome result) then self.old.made + 1 else self.old.made) }
+        ensures entries { entries.new ≡ step_entries (kind E.Entry.usable E.Entry.first E.Entry.more) (filled_in self.old.reserve.now) (size_in self.old.reserve.now) self.old.made (outcome result) entries.old marks.old }
+        ensures marks { marks.new ≡ step_marks (kind E.Entry.usable E.Entry.first E.Entry.more) (filled_in self.old.reserve.now) (size_in self.old.reserve.now) self.old.made (outcome result) entries.old marks.old }
+        ensures history { GoesOn (kind E.Entry.usable E.Entry.first E.Entry.more) self.old.reserve.now running self.old.made entries.old marks.old self.new.made entries.new marks.new (step_square (kind E.Entry.usable E.Entry.first E.Entry.more) self.old.made (outcome result)) (λ put. put) }
     {
         check_room(self.reserve.length(), entries, marks)?;
         if self.all_made() {
@@ -52,14 +52,14 @@ impl<'r, E: Entry> Running<'r, E> {
 
     /// Whether n pivots are made.
     fn all_made(&self) -> bool
-        ensures { result ≡ (self.now.made == sizeIn self.now.reserve.now) }
+        ensures { result ≡ (self.now.made == size_in self.now.reserve.now) }
     {
         self.made == self.reserve.size()
     }
 
     /// Counts one more pivot.
     fn count(&mut self)
-        requires { self.old.made < sizeIn self.old.reserve.now }
+        requires { self.old.made < size_in self.old.reserve.now }
         ensures reserve { self.new.reserve.now ≡ self.old.reserve.now }
         ensures made { self.new.made ≡ self.old.made + 1 }
     {

@@ -2,7 +2,7 @@ use Rattle.std.proofs.Common.{◌≡◌, ℕ, ◌+◌, ◌<◌, ◌≤◌, true,
 use Rattle.std.proofs.lemmas.Bool.{both_ways, cases_Bool, cases_eq, cases_lt, not-false, not-true, or_cases, or_parts}
 use Rattle.elimination.specs.Graphs.{Graph, spare}
 use Rattle.elimination.specs.View.{graph}
-use Rattle.elimination.specs.Words.{commonWithin}
+use Rattle.elimination.specs.Words.{has_common_within}
 use Rattle.elimination.proofs.Relations.{Meets, spare-from, spare-to}
 use Rattle.elimination.proofs.Rows.{rows-below}
 use Rattle.elimination.proofs.RowTests.{common-meets}
@@ -26,10 +26,10 @@ returns-then-not-meets c =
     let v = c.args.v in
     let a = c.in-Some.a in
     let ws = c.args.pairs.now.words in
-    let p = or_parts (not (G v a)) (commonWithin 512 G u v a) (sym c.meets.ensures ∙ c.if-not-meets.true) in
+    let p = or_parts (not (G v a)) (has_common_within 512 G u v a) (sym c.meets.ensures ∙ c.if-not-meets.true) in
     ⊎_elim
-    (λ (t : spare 512 G u v ≡ true). absurd (both_ways (commonWithin 512 G u v a) p.1
-    ((common-meets ws u v a (commonWithin 512 G u v a) refl).1
+    (λ (t : spare 512 G u v ≡ true). absurd (both_ways (has_common_within 512 G u v a) p.1
+    ((common-meets ws u v a (has_common_within 512 G u v a) refl).1
     (spare-from 512 G u v (rows-below ws) t a c.in-Some.ensures.first.2 (not-false (G v a) p.0)))))
     (λ (t : spare 512 G u v ≡ false). sym t)
     (cases_Bool (spare 512 G u v))
@@ -44,8 +44,8 @@ loop-a-preserved c =
       looked-more G u v c.loop-a.from a first.3
           (λ h. ⊎_elim
           (λ (t : not (G v a) ≡ true). absurd (both_ways (G v a) (not-true (G v a) t) h))
-          (λ (t : commonWithin 512 G u v a ≡ true). (common-meets c.args.pairs.now.words u v a (commonWithin 512 G u v a) refl).0 t)
-          (or_cases (not (G v a)) (commonWithin 512 G u v a) (sym c.meets.ensures ∙ c.if-not-meets.false)))
+          (λ (t : has_common_within 512 G u v a ≡ true). (common-meets c.args.pairs.now.words u v a (has_common_within 512 G u v a) refl).0 t)
+          (or_cases (not (G v a)) (has_common_within 512 G u v a) (sym c.meets.ensures ∙ c.if-not-meets.false)))
           c.loop-a.invariant.0,
       omega (arith, first.1),
     )

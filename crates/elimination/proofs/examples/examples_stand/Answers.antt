@@ -1,10 +1,10 @@
 use Rattle.std.proofs.Common.{refl}
 use Rattle.network.specs.Bits.{count_to}
-use Rattle.network.specs.Orders.{stationFault, namedBefore}
-use Rattle.network.specs.Refusals.{firstFault}
-use Rattle.elimination.specs.Elimination.{pairsBelow}
+use Rattle.network.specs.Orders.{station_fault, named_before}
+use Rattle.network.specs.Refusals.{first_fault}
+use Rattle.elimination.specs.Elimination.{pairs_below}
 use Rattle.elimination.proofs.examples.examples_stand.Goals as goal
 
 pub returns : goal.returns
-unfolding pairsBelow count_to stationFault namedBefore firstFault
+unfolding pairs_below count_to station_fault named_before first_fault
 returns c = refl

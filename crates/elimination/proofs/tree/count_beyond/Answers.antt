@@ -1,13 +1,13 @@
 use Rattle.std.proofs.Common.{◌≡◌, ℕ, ◌+◌, sym, ap, ◌∙◌, arith}
-use Rattle.elimination.specs.Elimination.{beyond, pairsBelow}
+use Rattle.elimination.specs.Elimination.{beyond, pairs_below}
 use Rattle.elimination.specs.View.{graph}
 use Rattle.elimination.proofs.Afterwards.{pairs-split}
 use Rattle.elimination.proofs.tree.count_beyond.Goals as goal
 
 -- the pairs beyond the couplings and the couplings are all pairs
-parts : (c : goal.After-count-pairs-2) → pairsBelow c.args.n (beyond (graph c.args.pairs.now) (graph c.args.couplings.now)) + c.count-pairs-2.result ≡ c.count-pairs.result
+parts : (c : goal.After-count-pairs-2) → pairs_below c.args.n (beyond (graph c.args.pairs.now) (graph c.args.couplings.now)) + c.count-pairs-2.result ≡ c.count-pairs.result
 parts c =
-    ap (λ (m : ℕ). pairsBelow c.args.n (beyond (graph c.args.pairs.now) (graph c.args.couplings.now)) + m) c.count-pairs-2.ensures.value
+    ap (λ (m : ℕ). pairs_below c.args.n (beyond (graph c.args.pairs.now) (graph c.args.couplings.now)) + m) c.count-pairs-2.ensures.value
     ∙ pairs-split (graph c.args.pairs.now) (graph c.args.couplings.now) c.args.n c.requires.within ∙ sym c.count-pairs.ensures.value
 
 pub overflow-sub-result : goal.overflow-sub-result

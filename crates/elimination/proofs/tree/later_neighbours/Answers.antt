@@ -1,5 +1,5 @@
 use Rattle.std.proofs.Common.{◌≡◌, ℕ, Bool, cond, length, get_or, sym, ap, ◌∙◌, zero-add, arith}
-use Rattle.elimination.specs.Elimination.{howMany}
+use Rattle.elimination.specs.Elimination.{how_many}
 use Rattle.elimination.specs.Graphs.{Graph}
 use Rattle.elimination.specs.View.{graph, listed}
 use Rattle.elimination.proofs.Listing.{order-of, listed-length}
@@ -12,7 +12,7 @@ loop-k-init c =
     let order = c.args.order.now in
     let l = listed-length order in
     let F : Graph = graph c.args.pairs.now in (
-      ap (howMany (F c.args.station)) (rest-is F (listed order) c.args.station c.position-k.result (order-of order).once (omega (arith, c.position-k.ensures.small)) c.position-k.ensures.there)
+      ap (how_many (F c.args.station)) (rest-is F (listed order) c.args.station c.position-k.result (order-of order).once (omega (arith, c.position-k.ensures.small)) c.position-k.ensures.there)
           ∙ sym (zero-add _),
       omega arith,
     )

@@ -1,6 +1,6 @@
 use Rattle.std.proofs.Common.{◌≡◌, ◌+◌, ◌*◌, ◌^◌, ◌<◌, get_or, refl, ap, ◌∙◌, arith, rules}
 use Rattle.network.specs.Bits.{count_to}
-use Rattle.network.proofs.Bits.{countTo-le}
+use Rattle.network.proofs.Bits.{count_to-le}
 use Rattle.elimination.specs.Words.{between, rows}
 use Rattle.elimination.proofs.RowTests.{count-more}
 use Rattle.elimination.proofs.words.count_between.Goals as goal
@@ -14,7 +14,7 @@ overflow-add-total-in-loop-k c =
     let hw : get_or c.args.words.now (c.args.a * 8 + c.loop-k.k) 0 < 2 ^ 64 = search rules in
     omega (
       arith,
-      countTo-le (between (rows c.args.words.now) c.args.a c.args.low c.args.high) (64 * (c.loop-k.k + 1)),
+      count_to-le (between (rows c.args.words.now) c.args.a c.args.low c.args.high) (64 * (c.loop-k.k + 1)),
       count-more c.args.words.now c.args.a c.args.low c.args.high c.loop-k.k c.below.result c.below-in-loop-k.result
           c.requires (omega arith) hw c.below-in-loop-k.type-inv c.below.ensures c.below-in-loop-k.ensures,
     )
@@ -32,4 +32,4 @@ pub returns : goal.returns
 returns c =
     let e : 64 * c.loop-k.k ≡ 512 = omega arith in
     let value : c.loop-k.total ≡ count_to (between (rows c.args.words.now) c.args.a c.args.low c.args.high) 512 = c.loop-k.invariant ∙ ap (count_to (between (rows c.args.words.now) c.args.a c.args.low c.args.high)) e in
-    record { value = value; small = omega (arith, countTo-le (between (rows c.args.words.now) c.args.a c.args.low c.args.high) 512) }
+    record { value = value; small = omega (arith, count_to-le (between (rows c.args.words.now) c.args.a c.args.low c.args.high) 512) }

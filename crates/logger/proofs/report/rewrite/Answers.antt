@@ -1,12 +1,12 @@
 use Rattle.std.proofs.Common.{◌≡◌, ℕ, ◌-◌, ◌≤◌, Bool, List, ◌++◌, length, take, drop, None, Ok, Result, sym, refl, ap, ◌∙◌, ap₂, arith, rules}
 use Rattle.std.specs.Str.{bytes_eq}
-use Rattle.network.specs.Encode.{bytes_of, writeFault, bufferAfter}
+use Rattle.network.specs.Encode.{bytes_of, write_fault, buffer_after}
 use Rattle.network.specs.Net.{Net}
 use Rattle.network.specs.Refusals.{Fault, unless}
-use Rattle.network.specs.Sheets.{pairsTo}
+use Rattle.network.specs.Sheets.{pairs_to}
 use Rattle.logger.specs.declared.report.Report.{Report}
 use Rattle.network.proofs.Faults.{unless-ok}
-use Rattle.logger.specs.Reports.{reportOf}
+use Rattle.logger.specs.Reports.{report_of}
 use Rattle.logger.proofs.Rewriting.{write-room, front}
 use Rattle.logger.proofs.report.rewrite.Goals as goal
 
@@ -25,19 +25,19 @@ returns g c =
     let old = c.args.again.now in
     let bytes = bytes_of net order in
     let got = unless-ok _ _ _ c.in-ok-bytes.ensures.answer in
-    let out : c.write-sheet.new.out ≡ bytes ++ drop (length bytes) old = c.in-ok-bytes.ensures.out ∙ ap (λ o. bufferAfter o bytes old) got.0 in
+    let out : c.write-sheet.new.out ≡ bytes ++ drop (length bytes) old = c.in-ok-bytes.ensures.out ∙ ap (λ o. buffer_after o bytes old) got.0 in
     let piece : take (c.in-ok-bytes.bytes - 0) c.write-sheet.new.out ≡ bytes =
     ap (take (c.in-ok-bytes.bytes - 0)) out ∙ front bytes _ _ (omega (arith, got.1)) in
     let same : c.same-bytes-same.result ≡ bytes_eq c.args.sheet.now bytes = c.same-bytes-same.ensures ∙ ap (bytes_eq c.args.sheet.now) piece in
     let stations : c.size-stations.result ≡ net.size = c.size-stations.ensures in
-    let couplings : c.count-couplings-couplings.result ≡ length (pairsTo net.coupled net.size) = c.count-couplings-couplings.ensures.value in
+    let couplings : c.count-couplings-couplings.result ≡ length (pairs_to net.coupled net.size) = c.count-couplings-couplings.ensures.value in
     let long : c.in-ok-bytes.bytes ≡ length bytes = got.1 in
     let make : ℕ → ℕ → ℕ → Bool → Report = λ a b n t. record { stations = a; couplings = b; bytes = n; same = t } in
-    let found : make c.size-stations.result c.count-couplings-couplings.result c.in-ok-bytes.bytes c.same-bytes-same.result ≡ reportOf net order c.args.sheet.now =
+    let found : make c.size-stations.result c.count-couplings-couplings.result c.in-ok-bytes.bytes c.same-bytes-same.result ≡ report_of net order c.args.sheet.now =
     ap₂ (λ (a b : ℕ). make a b c.in-ok-bytes.bytes c.same-bytes-same.result) stations couplings
-    ∙ ap₂ (make net.size (length (pairsTo net.coupled net.size))) long same in
+    ∙ ap₂ (make net.size (length (pairs_to net.coupled net.size))) long same in
     let whole : Report → Result Report Fault = λ r. Ok r in
     record {
-      answer = ap whole found ∙ sym (ap (λ o. unless o (reportOf net order c.args.sheet.now)) got.0);
+      answer = ap whole found ∙ sym (ap (λ o. unless o (report_of net order c.args.sheet.now)) got.0);
       again = c.in-ok-bytes.ensures.out;
     }

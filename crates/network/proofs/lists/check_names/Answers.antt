@@ -1,6 +1,6 @@
 use Rattle.std.proofs.Common.{refl, add-one, arith}
 use Rattle.std.proofs.lemmas.Result.{err_from_is_err_and}
-use Rattle.network.specs.Lists.{nameFault, rowFault}
+use Rattle.network.specs.Lists.{name_fault, row_fault}
 use Rattle.network.proofs.ListFaults.{walk_none, walk_more, walk-found, answer_err, was-ok, was-err}
 use Rattle.network.proofs.lists.check_names.Goals as goal
 
@@ -10,7 +10,7 @@ loop-station-init c = walk_none _ 0 refl
 pub returns-in-err-check-names-of : goal.returns-in-err-check-names-of
 returns-in-err-check-names-of c =
     let p = err_from_is_err_and c.from-residual.result c.from-residual.ensures.1 in
-    let found = rowFault c.args.starts.now (nameFault c.args.starts.now c.args.names.now) in
+    let found = row_fault c.args.starts.now (name_fault c.args.starts.now c.args.names.now) in
     let s = c.loop-station.station in
     rw (p.1, p.2)
     (answer_err _ _ (walk-found found s _ _ c.loop-station.invariant (was-err (found s) _ c.in-err-check-names-of.ensures) (omega arith)))
@@ -18,5 +18,5 @@ returns-in-err-check-names-of c =
 pub loop-station-preserved : goal.loop-station-preserved
 loop-station-preserved c =
     let s = c.loop-station.station in
-    let found = rowFault c.args.starts.now (nameFault c.args.starts.now c.args.names.now) in
+    let found = row_fault c.args.starts.now (name_fault c.args.starts.now c.args.names.now) in
     walk_more found s _ (add-one s) c.loop-station.invariant (was-ok (found s) c.in-ok-check-names-of.ensures)

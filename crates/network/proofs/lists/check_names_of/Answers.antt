@@ -1,13 +1,13 @@
 use Rattle.std.proofs.Common.{◌≡◌, ℕ, ◌+◌, ◌-◌, get_or, sym, ap, ◌∙◌, arith}
 use Rattle.std.proofs.lemmas.Bool.{cond-true, cond-false}
-use Rattle.network.specs.Refusals.{at, firstFault}
-use Rattle.network.specs.Lists.{nameFault, rowFault}
+use Rattle.network.specs.Refusals.{at, first_fault}
+use Rattle.network.specs.Lists.{name_fault, row_fault}
 use Rattle.network.proofs.ListFaults.{part_none, part-more, part-found, answer_ok, answer_err}
 use Rattle.network.proofs.ListRows.{list-within}
 use Rattle.network.proofs.lists.check_names_of.Goals as goal
 
 pub loop-k-init : goal.loop-k-init
-loop-k-init c = part_none (nameFault c.args.starts.now c.args.names.now c.args.station) (get_or c.args.starts.now c.args.station 0)
+loop-k-init c = part_none (name_fault c.args.starts.now c.args.names.now c.args.station) (get_or c.args.starts.now c.args.station 0)
 
 pub name-fits-requires : goal.name-fits-requires
 name-fits-requires c =
@@ -15,24 +15,24 @@ name-fits-requires c =
     (omega arith, omega (arith, within))
 
 pub returns-then-not-name-fits : goal.returns-then-not-name-fits
-unfolding rowFault
+unfolding row_fault
 returns-then-not-name-fits c =
     let k = c.loop-k.k in
-    let found = nameFault c.args.starts.now c.args.names.now c.args.station in
+    let found = name_fault c.args.starts.now c.args.names.now c.args.station in
     answer_err _ _ (part-found found _ k _ (at 11 k) (omega arith) (omega arith) c.loop-k.invariant (cond-false _ _ _ (sym c.if-not-name-fits.ensures)))
 
 pub loop-k-preserved : goal.loop-k-preserved
 loop-k-preserved c =
     let k = c.loop-k.k in
-    let found = nameFault c.args.starts.now c.args.names.now c.args.station in
+    let found = name_fault c.args.starts.now c.args.names.now c.args.station in
     part-more found _ k (omega arith) c.loop-k.invariant (cond-true _ _ _ (sym c.if-not-name-fits.ensures))
 
 pub returns : goal.returns
-unfolding rowFault
+unfolding row_fault
 returns c =
     let starts = c.args.starts.now in
     let s = c.args.station in
     let order = (list-within starts c.args.names.now c.requires.starts s c.requires.station).0 in
     let end : c.loop-k.k ≡ get_or starts (s + 1) 0 = omega (arith, order) in
-    let found = nameFault starts c.args.names.now s in
-    answer_ok _ (ap (λ (k : ℕ). firstFault (λ j. found (get_or starts s 0 + j)) (k - get_or starts s 0)) (sym end) ∙ c.loop-k.invariant)
+    let found = name_fault starts c.args.names.now s in
+    answer_ok _ (ap (λ (k : ℕ). first_fault (λ j. found (get_or starts s 0 + j)) (k - get_or starts s 0)) (sym end) ∙ c.loop-k.invariant)

@@ -2,8 +2,8 @@ use Rattle.std.proofs.Common.{◌≡◌, ℕ, ◌+◌, ◌<◌, ◌≤◌, true,
 use Rattle.std.proofs.lemmas.Bool.{cases_lt, ltb-true, and_parts}
 use Rattle.std.proofs.lemmas.Bool.Decides.{nat_tests}
 use Rattle.std.proofs.lemmas.List.{length-set}
-use Rattle.network.specs.Refusals.{at, refuse, firstFault, unless}
-use Rattle.network.specs.Orders.{stationFault, among}
+use Rattle.network.specs.Refusals.{at, refuse, first_fault, unless}
+use Rattle.network.specs.Orders.{station_fault, among}
 use Rattle.network.proofs.Faults.{fault-none, fault-more, fault-found}
 use Rattle.network.proofs.Marks.{named_start, mark-more}
 use Rattle.network.proofs.orders.check_stations.Goals as goal
@@ -12,11 +12,11 @@ pub loop-k-init : goal.loop-k-init
 loop-k-init c = (fault-none _ 0 (omega arith), omega arith, λ v h. c.no-marks-seen.ensures v ∙ sym (named_start _ v))
 
 pub returns-then-not-is-new : goal.returns-then-not-is-new
-unfolding stationFault
+unfolding station_fault
 returns-then-not-is-new c =
     let xs = c.args.order.now in
     let k = c.loop-k.k in
-    let f = stationFault xs c.args.n in
+    let f = station_fault xs c.args.n in
     let seen : get_or xs k 0 < c.args.n → get_or c.loop-k.seen (get_or xs k 0) false ≡ among xs k (get_or xs k 0) = λ lt. c.loop-k.invariant.2 (get_or xs k 0) (omega (arith, c.requires.1)) in
     let told = c.if-not-is-new.ensures in
     let here : f k ≡ refuse 14 k =
@@ -27,12 +27,12 @@ returns-then-not-is-new c =
     sym (ap (λ o. unless o tt) (fault-found f k c.args.n (at 14 k) c.loop-k.invariant.0 here (omega arith)))
 
 pub loop-k-preserved : goal.loop-k-preserved
-unfolding stationFault
+unfolding station_fault
 loop-k-preserved c =
     let xs = c.args.order.now in
     let k = c.loop-k.k in
     let v = get_or xs k 0 in
-    let f = stationFault xs c.args.n in
+    let f = station_fault xs c.args.n in
     let told = c.if-not-is-new.ensures in
     let known : v < c.args.n = ltb-true _ _ (and_parts (ltb v c.args.n) _ (sym told)).0 in
     let m = c.loop-k.invariant.2 v (omega arith) in
@@ -45,4 +45,4 @@ loop-k-preserved c =
 pub returns : goal.returns
 returns c =
     let e : c.loop-k.k ≡ c.args.n = omega arith in
-    sym (ap (λ o. unless o tt) (ap (firstFault (stationFault c.args.order.now c.args.n)) (sym e) ∙ c.loop-k.invariant.0))
+    sym (ap (λ o. unless o tt) (ap (first_fault (station_fault c.args.order.now c.args.n)) (sym e) ∙ c.loop-k.invariant.0))

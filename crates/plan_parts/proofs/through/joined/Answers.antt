@@ -3,7 +3,7 @@ use Rattle.std.proofs.lemmas.List.{length-set}
 use Rattle.std.proofs.lemmas.Bool.{false≢true}
 use Rattle.elimination.specs.Graphs.{Graph, Simple}
 use Rattle.elimination.specs.View.{graph, listed}
-use Rattle.plan_parts.specs.Boards.{cleared, markAfter}
+use Rattle.plan_parts.specs.Boards.{cleared, mark_after}
 use Rattle.plan_parts.proofs.Marks.{mark-past}
 use Rattle.plan_parts.proofs.Reaching.{before, path-joined, joined-path}
 use Rattle.plan_parts.proofs.Searching.{Search, cleared-begun, cleared-same, cleared-set, search-begun, search-found, search-less, search-more, search-over}
@@ -22,10 +22,10 @@ loop-station-init c =
 -- the marks once the neighbours of a station were looked at
 marks-more : (c : goal.After-find-neighbours) (k : ℕ)
     → get_or c.find-neighbours.new.board k 0
-    ≡ markAfter (graph c.args.couplings.now) (listed c.args.order.now) c.min-position.result c.in-Some.station (set c.loop-station.marks.board.now c.in-Some.station 2) k
+    ≡ mark_after (graph c.args.couplings.now) (listed c.args.order.now) c.min-position.result c.in-Some.station (set c.loop-station.marks.board.now c.in-Some.station 2) k
 marks-more c k =
     c.find-neighbours.ensures.marks k
-    ∙ ap (λ (bs : List ℕ). markAfter (graph c.args.couplings.now) (listed c.args.order.now) c.min-position.result c.in-Some.station bs k) c.in-Some.ensures.marked
+    ∙ ap (λ (bs : List ℕ). mark_after (graph c.args.couplings.now) (listed c.args.order.now) c.min-position.result c.in-Some.station bs k) c.in-Some.ensures.marked
 
 room : (c : goal.After-find-neighbours) → c.size-n.result ≤ length c.loop-station.marks.board.now
 room c = search rules

@@ -1,5 +1,5 @@
 use Rattle.std.proofs.Common.{ap, ◌∙◌}
-use Rattle.run_parts.specs.Tables.{squareOf, entry_of}
+use Rattle.run_parts.specs.Tables.{square_of, entry_of}
 use Rattle.run_parts.proofs.Parts.{cell-within}
 use Rattle.run_parts.proofs.tables.held.Goals as goal
 
@@ -7,5 +7,5 @@ pub entry-at-requires : goal.entry-at-requires
 entry-at-requires g c = cell-within _ _ _ _ _ _ _ c.cell.ensures c.requires
 
 pub returns : goal.returns
-unfolding squareOf
+unfolding square_of
 returns g c = c.entry-at.ensures ∙ ap (entry_of c.args.entries.now c.args.marks.now) c.cell.ensures

@@ -1,8 +1,8 @@
 use Rattle.std.proofs.Common.{refl}
-use Rattle.network.specs.Refusals.{firstFault}
-use Rattle.network.specs.Lists.{listsFault, rowFault}
+use Rattle.network.specs.Refusals.{first_fault}
+use Rattle.network.specs.Lists.{lists_fault, row_fault}
 use Rattle.network.proofs.list_network.ListNetwork.lone.Goals as goal
 
 pub invariant-of-result : goal.invariant-of-result
-unfolding listsFault firstFault rowFault
+unfolding lists_fault first_fault row_fault
 invariant-of-result c = (refl, tt)

@@ -1,10 +1,10 @@
 use Rattle.std.proofs.Common.{arith}
-use Rattle.network.specs.Lists.{listsFault}
+use Rattle.network.specs.Lists.{lists_fault}
 use Rattle.network.specs.ListLaws.{no-fault, checks-passed}
 use Rattle.network.proofs.list_network.ListNetworkNetwork.coupled.Goals as goal
 
 pub is-named-requires : goal.is-named-requires
 is-named-requires c =
     let s = c.args.self.now in
-    let all = checks-passed s.starts.now s.names.now (no-fault (listsFault s.starts.now s.names.now) s.faultless) in
+    let all = checks-passed s.starts.now s.names.now (no-fault (lists_fault s.starts.now s.names.now) s.faultless) in
     record { station = omega arith; starts = all.2; names = all.3 }

@@ -2,16 +2,16 @@
 use Rattle.std.proofs.Common.{refl, arith}
 use Rattle.network.specs.Bits.{bit_at}
 use Rattle.network.specs.Fields.{field, bit_of}
-use Rattle.network.specs.Orders.{namedBefore}
-use Rattle.network.specs.Refusals.{firstFault}
-use Rattle.network.specs.Sheets.{width, widthTo}
-use Rattle.network.specs.Decode.{fault, headerFault, bodyFault, pairFault, placedFault, endFault, sheetOf, couplingsOf, order_of, placeOf, value_at}
+use Rattle.network.specs.Orders.{named_before}
+use Rattle.network.specs.Refusals.{first_fault}
+use Rattle.network.specs.Sheets.{width, width_to}
+use Rattle.network.specs.Decode.{fault, header_fault, body_fault, pair_fault, placed_fault, end_fault, sheet_of, couplings_of, order_of, place_for, value_at}
 use Rattle.network.proofs.sheets.SheetNetwork.lone.Goals as goal
 
 pub invariant-of-result : goal.invariant-of-result
-unfolding fault headerFault bodyFault firstFault pairFault placedFault endFault namedBefore placeOf value_at width widthTo field bit_of bit_at
+unfolding fault header_fault body_fault first_fault pair_fault placed_fault end_fault named_before place_for value_at width width_to field bit_of bit_at
 invariant-of-result c = ((refl, refl, refl), (omega arith, (omega arith, tt)))
 
 pub returns : goal.returns
-unfolding couplingsOf order_of placeOf value_at width widthTo field bit_of bit_at
+unfolding couplings_of order_of place_for value_at width width_to field bit_of bit_at
 returns c = record { bytes = refl; sheet = refl }

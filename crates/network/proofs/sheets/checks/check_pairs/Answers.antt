@@ -1,6 +1,6 @@
 use Rattle.std.proofs.Common.{◌≡◌, ℕ, ◌+◌, ◌-◌, ◌*◌, List, sym, refl, ap, ◌∙◌, arith, rules}
 use Rattle.std.proofs.lemmas.Result.{err_from_is_err_and}
-use Rattle.network.specs.Decode.{pairFault, value_at, placeOf}
+use Rattle.network.specs.Decode.{pair_fault, value_at, place_for}
 use Rattle.network.specs.Parts.{pair_of}
 use Rattle.network.specs.Refusals.{unless}
 use Rattle.network.proofs.Faults.{fault-none, fault-more, fault-found, unless-ok, unless-err}
@@ -8,7 +8,7 @@ use Rattle.network.proofs.Places.{place-next}
 use Rattle.network.proofs.sheets.checks.check_pairs.Goals as goal
 
 pub loop-k-init : goal.loop-k-init
-unfolding placeOf
+unfolding place_for
 loop-k-init c = (omega (arith, c.requires.place), omega arith, λ h. absurd (omega arith), λ h. absurd (omega arith), fault-none _ 0 (omega arith), refl)
 
 pub returns-in-err-last : goal.returns-in-err-last
@@ -16,7 +16,7 @@ returns-in-err-last c =
     let p = err_from_is_err_and c.from-residual.result c.from-residual.ensures.1 in
     let bs = c.args.reader.now.bytes.now in
     let k = c.loop-k.k in
-    let f = pairFault bs c.args.n c.args.w in
+    let f = pair_fault bs c.args.n c.args.w in
     let here = unless-err (f k) _ _ (c.in-err-last.ensures.value ∙ ap (λ l. pair_of l c.args.n c.args.w k) c.loop-k.invariant.5) in
     let first = fault-found f k c.args.m _ c.loop-k.invariant.4 here (omega arith) in
     rw (p.1, p.2) (record { value = sym (ap (λ o. unless o tt) first); place = tt; bytes = search rules })
@@ -26,11 +26,11 @@ loop-k-preserved c =
     let bs = c.args.reader.now.bytes.now in
     let w = c.args.w in
     let k = c.loop-k.k in
-    let f = pairFault bs c.args.n w in
+    let f = pair_fault bs c.args.n w in
     let was = c.in-ok-last.ensures in
     let got = unless-ok (f k) (value_at bs w (2 * k), value_at bs w (2 * k + 1)) c.in-ok-last.last (was.value ∙ ap (λ l. pair_of l c.args.n w k) c.loop-k.invariant.5) in
     let e : 2 * (k + 1) ≡ 2 * k + 1 + 1 = omega arith in (
-      omega (arith, was.place, ap (placeOf w) e, place-next w (2 * k), place-next w (2 * k + 1)),
+      omega (arith, was.place, ap (place_for w) e, place-next w (2 * k), place-next w (2 * k + 1)),
       omega (arith, was.place),
       (λ h. ap (λ (p : ℕ × ℕ). p.0) got.1 ∙ ap (value_at bs w) (omega arith)),
       (λ h. ap (λ (p : ℕ × ℕ). p.1) got.1 ∙ ap (value_at bs w) (omega arith)),

@@ -1,33 +1,33 @@
 use Rattle.std.proofs.Common.{get_or, refl, arith, rules}
 use Rattle.std.proofs.lemmas.Bool.Decides.{nat_tests}
-use Rattle.network.specs.Decode.{headerFault}
+use Rattle.network.specs.Decode.{header_fault}
 use Rattle.network.proofs.Fields.{header-fields, field_lt}
 use Rattle.network.proofs.sheets.checks.header.Goals as goal
 
 pub returns-in-default : goal.returns-in-default
-unfolding headerFault
+unfolding header_fault
 returns-in-default c = record { value = grind (arith, nat_tests); small = tt }
 
 pub returns-then-word-ne1 : goal.returns-then-word-ne1
-unfolding headerFault
+unfolding header_fault
 returns-then-word-ne1 c =
     let is = header-fields c.args.sheet.now _ (omega arith) (omega arith) (omega arith) (omega arith) refl in
     record { value = grind (arith, nat_tests); small = tt }
 
 pub returns-then-stations-lt1 : goal.returns-then-stations-lt1
-unfolding headerFault
+unfolding header_fault
 returns-then-stations-lt1 c =
     let is = header-fields c.args.sheet.now _ (omega arith) (omega arith) (omega arith) (omega arith) refl in
     record { value = grind (arith, nat_tests); small = tt }
 
 pub returns-then-couplings-stations : goal.returns-then-couplings-stations
-unfolding headerFault
+unfolding header_fault
 returns-then-couplings-stations c =
     let is = header-fields c.args.sheet.now _ (omega arith) (omega arith) (omega arith) (omega arith) refl in
     record { value = grind (arith, nat_tests); small = tt }
 
 pub returns : goal.returns
-unfolding headerFault
+unfolding header_fault
 returns c =
     let is = header-fields c.args.sheet.now _ (omega arith) (omega arith) (omega arith) (omega arith) refl in
     record { value = grind (arith, nat_tests); small = (omega arith, omega arith, omega arith) }

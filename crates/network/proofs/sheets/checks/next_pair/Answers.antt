@@ -1,20 +1,20 @@
 use Rattle.std.proofs.Common.{◌≡◌, ◌+◌, ◌-◌, ◌*◌, sym, refl, ap, ◌∙◌, arith, rules}
 use Rattle.std.proofs.lemmas.Bool.Decides.{nat_tests}
 use Rattle.std.proofs.lemmas.Result.{err_from_is_err_and}
-use Rattle.network.specs.Decode.{pairFault}
+use Rattle.network.specs.Decode.{pair_fault}
 use Rattle.network.proofs.Takes.{station-cut, pair-cut, pair-took, both-passed}
 use Rattle.network.proofs.sheets.checks.next_pair.Goals.{else-k-gt0-via-then-k-gt0+else-not-comes-before, else-k-gt0-via-else-k-gt0}
 use Rattle.network.proofs.sheets.checks.next_pair.Goals as goal
 
 pub returns-in-err-larger : goal.returns-in-err-larger
-unfolding pairFault
+unfolding pair_fault
 returns-in-err-larger c =
     let p = err_from_is_err_and c.from-residual.result c.from-residual.ensures.1 in
     let first = station-cut c.args.reader.now.bytes.now _ c.args.reader.now.at c.args.w (2 * c.args.k) _ refl c.requires.place c.in-err-larger.ensures.value in
     rw (p.1, p.2) (record { value = grind (arith, nat_tests); place = tt; bytes = search rules })
 
 pub returns-in-err-smaller : goal.returns-in-err-smaller
-unfolding pairFault
+unfolding pair_fault
 returns-in-err-smaller c =
     let p = err_from_is_err_and c.from-residual-in-err-smaller.result c.from-residual-in-err-smaller.ensures.1 in
     let was = c.in-ok-larger.ensures in
@@ -22,14 +22,14 @@ returns-in-err-smaller c =
     rw (p.1, p.2) (record { value = grind (arith, nat_tests); place = tt; bytes = search rules })
 
 pub returns-then-larger-n : goal.returns-then-larger-n
-unfolding pairFault
+unfolding pair_fault
 returns-then-larger-n c =
     let was = c.in-ok-larger.ensures in
     let both = pair-took c.args.reader.now.bytes.now _ c.args.reader.now.at _ c.args.w c.args.k _ _ c.requires.place was.value was.place was.bytes c.in-ok-smaller.ensures.value in
     record { value = grind (arith, nat_tests); place = tt; bytes = search rules }
 
 pub returns-then-not-comes-before : goal.returns-then-not-comes-before
-unfolding pairFault
+unfolding pair_fault
 returns-then-not-comes-before c =
     let was = c.in-ok-larger.ensures in
     let both = pair-took c.args.reader.now.bytes.now _ c.args.reader.now.at _ c.args.w c.args.k _ _ c.requires.place was.value was.place was.bytes c.in-ok-smaller.ensures.value in
@@ -39,7 +39,7 @@ returns-then-not-comes-before c =
     record { value = grind (arith, nat_tests); place = tt; bytes = search rules }
 
 pub returns : goal.returns
-unfolding pairFault
+unfolding pair_fault
 returns c =
     let was = c.in-ok-larger.ensures in
     let then = c.in-ok-smaller.ensures in

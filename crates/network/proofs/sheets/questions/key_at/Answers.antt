@@ -1,7 +1,7 @@
 use Rattle.std.proofs.Common.{◌≡◌, ℕ, ◌+◌, ◌*◌, ◌^◌, ◌<◌, ◌≤◌, sym, ap, ◌∙◌, arith, pow_mono}
 use Rattle.network.specs.Fields.{field}
 use Rattle.network.proofs.Fields.{field_lt}
-use Rattle.network.specs.Decode.{value_at, placeOf}
+use Rattle.network.specs.Decode.{value_at, place_for}
 use Rattle.network.specs.Parts.{key_at}
 use Rattle.network.proofs.Places.{place-next}
 use Rattle.network.proofs.sheets.questions.key_at.Goals as goal
@@ -25,5 +25,5 @@ returns c =
     let w = c.args.w in
     let k = c.args.k in
     let at = c.place-of-at.ensures.value in
-    let next : c.place-of-at.result + w ≡ placeOf w (2 * k + 1) = ap (λ (x : ℕ). x + w) at ∙ sym (place-next w (2 * k)) in
+    let next : c.place-of-at.result + w ≡ place_for w (2 * k + 1) = ap (λ (x : ℕ). x + w) at ∙ sym (place-next w (2 * k)) in
     omega (arith, ap (λ (x : ℕ). field bs x w) at, ap (λ (x : ℕ). field bs x w) next)

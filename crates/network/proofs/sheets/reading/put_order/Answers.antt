@@ -4,7 +4,7 @@ use Rattle.std.proofs.lemmas.List.{take-append-drop, take_more_set, drop-set-lt,
 use Rattle.std.proofs.lemmas.List.FromFn.{map-range_with_len_more}
 use Rattle.network.proofs.Fields.{field_lt, field-small}
 use Rattle.network.specs.Fields.{field}
-use Rattle.network.specs.Decode.{placeOf, value_at, order_of}
+use Rattle.network.specs.Decode.{place_for, value_at, order_of}
 use Rattle.network.proofs.Places.{place-next}
 use Rattle.network.proofs.sheets.reading.put_order.Goals as goal
 
@@ -30,7 +30,7 @@ loop-k-preserved c =
     let is : v ≡ f k = c.field-of.ensures ∙ ap (λ (x : ℕ). field bs x w) c.loop-k.invariant.0 in
     let e : s + (k + 1) ≡ s + k + 1 = omega arith in
     let less : k < k + 1 = omega arith in (
-      omega (arith, ap (placeOf w) e, place-next w (s + k)),
+      omega (arith, ap (place_for w) e, place-next w (s + k)),
       omega arith,
       take_more_set xs k v lt ∙ ap₂ (λ (x : List ℕ) (y : ℕ). x ++ y ∷ []) c.loop-k.invariant.2 is ∙ sym (map-range_with_len_more f 0 k k (omega arith)),
       drop-set-lt (k + 1) xs k v less ∙ sym (drop-drop 1 k xs) ∙ ap (drop 1) c.loop-k.invariant.3 ∙ drop-drop 1 k old,

@@ -1,6 +1,6 @@
 use Rattle.std.proofs.Common.{◌≡◌, ℕ, length, sym, ap, ◌∙◌, arith}
 use Rattle.network.proofs.Counts.{pairs-none, pairs-more, pairs-few}
-use Rattle.network.specs.Sheets.{pairsTo}
+use Rattle.network.specs.Sheets.{pairs_to}
 use Rattle.network.proofs.sheets.writing.count_couplings.Goals as goal
 
 pub loop-station-init : goal.loop-station-init
@@ -22,5 +22,5 @@ returns g c =
     let net = g.N.Network.meaning c.args.network.now in
     let few = (g.N.Network.lawful c.args.network.now).few in
     let e : c.loop-station.station ≡ net.size = omega (arith, c.size-n.ensures) in
-    let value = c.loop-station.invariant ∙ ap (λ (x : ℕ). length (pairsTo net.coupled x)) e in
+    let value = c.loop-station.invariant ∙ ap (λ (x : ℕ). length (pairs_to net.coupled x)) e in
     record { value = value; small = omega (arith, value, pairs-few net.coupled net.size few) }

@@ -1,7 +1,7 @@
 use Rattle.std.proofs.Common.{◌≡◌, ℕ, true, false, length, sym, ap, ◌∙◌, arith}
 use Rattle.network.proofs.Counts.{row-none, row_next}
 use Rattle.network.proofs.SheetPairs.{row-short}
-use Rattle.network.specs.Sheets.{rowTo}
+use Rattle.network.specs.Sheets.{row_to}
 use Rattle.network.proofs.sheets.writing.count_row.Goals.{then-coupled, else-coupled}
 use Rattle.network.proofs.sheets.writing.count_row.Goals as goal
 
@@ -26,6 +26,6 @@ returns g c =
     let C = (g.N.Network.meaning c.args.network.now).coupled in
     let e : c.loop-lower.lower ≡ c.args.station = omega arith in
     record {
-      value = c.loop-lower.invariant ∙ ap (λ (x : ℕ). length (rowTo C c.args.station x)) e;
+      value = c.loop-lower.invariant ∙ ap (λ (x : ℕ). length (row_to C c.args.station x)) e;
       small = omega (arith, c.loop-lower.invariant, row-short C c.args.station c.loop-lower.lower);
     }

@@ -1,20 +1,20 @@
 use Rattle.std.proofs.Common.{arith}
-use Rattle.network.proofs.Writes.{length-headBits, puts-field, puts-head}
+use Rattle.network.proofs.Writes.{length-head_bits, puts-field, puts-head}
 use Rattle.network.proofs.sheets.writing.put_head.Goals as goal
 
 pub put-requires : goal.put-requires
 put-requires c =
-    let long = length-headBits c.args.counts.stations c.args.counts.couplings in
+    let long = length-head_bits c.args.counts.stations c.args.counts.couplings in
     (omega arith, (omega arith, (omega arith, omega arith)))
 
 pub put-requires-2 : goal.put-requires-2
 put-requires-2 c =
-    let long = length-headBits c.args.counts.stations c.args.counts.couplings in
+    let long = length-head_bits c.args.counts.stations c.args.counts.couplings in
     (omega arith, (omega arith, (omega arith, omega arith)))
 
 pub put-requires-3 : goal.put-requires-3
 put-requires-3 c =
-    let long = length-headBits c.args.counts.stations c.args.counts.couplings in
+    let long = length-head_bits c.args.counts.stations c.args.counts.couplings in
     (omega arith, (omega arith, (omega arith, omega arith)))
 
 pub returns : goal.returns

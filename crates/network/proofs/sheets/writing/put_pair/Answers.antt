@@ -1,15 +1,15 @@
 use Rattle.std.proofs.Common.{[], ◌∷◌, arith}
-use Rattle.network.proofs.Writes.{length-pairBits, puts-field, puts-pair}
+use Rattle.network.proofs.Writes.{length-pair_bits, puts-field, puts-pair}
 use Rattle.network.proofs.sheets.writing.put_pair.Goals as goal
 
 pub put-requires : goal.put-requires
 put-requires c =
-    let long = length-pairBits c.args.w ((c.args.larger, c.args.smaller) ∷ []) in
+    let long = length-pair_bits c.args.w ((c.args.larger, c.args.smaller) ∷ []) in
     (omega arith, (omega arith, (omega arith, c.requires.fit.0)))
 
 pub put-requires-2 : goal.put-requires-2
 put-requires-2 c =
-    let long = length-pairBits c.args.w ((c.args.larger, c.args.smaller) ∷ []) in
+    let long = length-pair_bits c.args.w ((c.args.larger, c.args.smaller) ∷ []) in
     (omega arith, (omega arith, (omega arith, c.requires.fit.1)))
 
 pub returns : goal.returns

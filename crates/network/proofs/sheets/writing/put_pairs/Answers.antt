@@ -1,8 +1,8 @@
 use Rattle.std.proofs.Common.{◌≡◌, ℕ, ◌^◌, ◌≤◌, sym, ap, subst, arith}
 use Rattle.network.proofs.Places.{width_few, width-holds}
 use Rattle.network.proofs.Writes.{puts_none, puts-both, pairs-none, pairs-more, pairs-room}
-use Rattle.network.specs.Sheets.{rowTo, pairsTo}
-use Rattle.network.specs.Writing.{Puts, pairBits}
+use Rattle.network.specs.Sheets.{row_to, pairs_to}
+use Rattle.network.specs.Writing.{Puts, pair_bits}
 use Rattle.network.proofs.sheets.writing.put_pairs.Goals as goal
 
 pub loop-a-init : goal.loop-a-init
@@ -26,10 +26,10 @@ loop-a-preserved g c =
     let C = (g.N.Network.meaning c.args.network.now).coupled in
     let w = c.args.w in
     let a = c.loop-a.a in
-    subst (Puts _ _) (sym (pairs-more w C a)) (puts-both (pairBits w (pairsTo C a)) (pairBits w (rowTo C a a)) c.loop-a.invariant c.put-row.ensures)
+    subst (Puts _ _) (sym (pairs-more w C a)) (puts-both (pair_bits w (pairs_to C a)) (pair_bits w (row_to C a a)) c.loop-a.invariant c.put-row.ensures)
 
 pub returns : goal.returns
 returns g c =
     let net = g.N.Network.meaning c.args.network.now in
     let e : c.loop-a.a ≡ net.size = omega (arith, c.size-n.ensures) in
-    subst (λ (x : ℕ). Puts c.args.writer.now c.loop-a.writer (pairBits c.args.w (pairsTo net.coupled x))) e c.loop-a.invariant
+    subst (λ (x : ℕ). Puts c.args.writer.now c.loop-a.writer (pair_bits c.args.w (pairs_to net.coupled x))) e c.loop-a.invariant

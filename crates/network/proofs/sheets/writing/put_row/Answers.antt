@@ -1,7 +1,7 @@
 use Rattle.std.proofs.Common.{◌≡◌, ℕ, ◌+◌, [], ◌∷◌, sym, ◌∙◌, subst, arith}
-use Rattle.network.proofs.Writes.{puts_none, puts-both, length-pairBits, row-none, row-yes, row-no, row_room}
-use Rattle.network.specs.Sheets.{rowTo}
-use Rattle.network.specs.Writing.{Puts, pairBits}
+use Rattle.network.proofs.Writes.{puts_none, puts-both, length-pair_bits, row-none, row-yes, row-no, row_room}
+use Rattle.network.specs.Sheets.{row_to}
+use Rattle.network.specs.Writing.{Puts, pair_bits}
 use Rattle.network.proofs.sheets.writing.put_row.Goals.{then-coupled, else-coupled}
 use Rattle.network.proofs.sheets.writing.put_row.Goals as goal
 
@@ -13,11 +13,11 @@ pub put-pair-requires : goal.put-pair-requires
 put-pair-requires g c =
     let C = (g.N.Network.meaning c.args.network.now).coupled in
     let fits = row_room c.args.w C c.args.a c.loop-b.b (omega arith) (sym c.coupled.ensures ∙ c.if-coupled.true) in
-    let one = length-pairBits c.args.w ((c.args.a, c.loop-b.b) ∷ []) in
+    let one = length-pair_bits c.args.w ((c.args.a, c.loop-b.b) ∷ []) in
     record {
       width = c.requires.width;
       fit = (omega arith, omega arith);
-      room = (simp length-pairBits (omega (arith, c.loop-b.invariant.place, c.loop-b.invariant.size)), omega (arith, c.loop-b.invariant.size));
+      room = (simp length-pair_bits (omega (arith, c.loop-b.invariant.place, c.loop-b.invariant.size)), omega (arith, c.loop-b.invariant.size));
     }
 
 pub loop-b-preserved : goal.loop-b-preserved
@@ -28,11 +28,11 @@ loop-b-preserved g c =
     let b = c.loop-b.b in
     elim c.if-coupled.branch [
       | then-coupled v ↦
-          subst (λ new. Puts c.args.writer.now new (pairBits w (rowTo C a (b + 1)))) (sym v.writer-is)
+          subst (λ new. Puts c.args.writer.now new (pair_bits w (row_to C a (b + 1)))) (sym v.writer-is)
           (subst (Puts _ _) (sym (row-yes w C a b (sym c.coupled.ensures ∙ v.if-coupled.true)))
-          (puts-both (pairBits w (rowTo C a b)) (pairBits w ((a, b) ∷ [])) c.loop-b.invariant v.put-pair.ensures))
+          (puts-both (pair_bits w (row_to C a b)) (pair_bits w ((a, b) ∷ [])) c.loop-b.invariant v.put-pair.ensures))
       | else-coupled v ↦
-          subst (λ new. Puts c.args.writer.now new (pairBits w (rowTo C a (b + 1)))) (sym v.writer-is)
+          subst (λ new. Puts c.args.writer.now new (pair_bits w (row_to C a (b + 1)))) (sym v.writer-is)
           (subst (Puts _ _) (sym (row-no w C a b (sym c.coupled.ensures ∙ v.if-coupled.false))) c.loop-b.invariant)
     ]
 
@@ -40,4 +40,4 @@ pub returns : goal.returns
 returns g c =
     let C = (g.N.Network.meaning c.args.network.now).coupled in
     let e : c.loop-b.b ≡ c.args.a = omega arith in
-    subst (λ (x : ℕ). Puts c.args.writer.now c.loop-b.writer (pairBits c.args.w (rowTo C c.args.a x))) e c.loop-b.invariant
+    subst (λ (x : ℕ). Puts c.args.writer.now c.loop-b.writer (pair_bits c.args.w (row_to C c.args.a x))) e c.loop-b.invariant

@@ -2,12 +2,12 @@ use Rattle.std.proofs.Common.{◌≡◌, ℕ, ◌+◌, ◌*◌, ◌^◌, ◌<◌
 use Rattle.network.proofs.Counts.{pairs-few}
 use Rattle.network.proofs.OrderChecks.{faultless-order}
 use Rattle.network.proofs.Places.{width-holds}
-use Rattle.network.proofs.Writes.{puts-both, length-headBits, wrote-pack}
+use Rattle.network.proofs.Writes.{puts-both, length-head_bits, wrote-pack}
 use Rattle.network.proofs.WholeSheets.{sheet-bits, sheet-length, sheet-room}
 use Rattle.network.specs.Encode.{bytes_of}
 use Rattle.network.specs.Laws.{Bytes}
-use Rattle.network.specs.Sheets.{spread, width, pairsTo, bitsIn, sheetFrom, encode}
-use Rattle.network.specs.Writing.{Puts, head_bits, pairBits}
+use Rattle.network.specs.Sheets.{spread, width, pairs_to, bits_in, sheet_from, encode}
+use Rattle.network.specs.Writing.{Puts, head_bits, pair_bits}
 use Rattle.network.proofs.sheets.writing.put_sheet.Given as given
 use Rattle.network.proofs.sheets.writing.put_sheet.Goals as goal
 use Rattle.network.proofs.sheets.writing.put_sheet.Goals.{After-new-writer}
@@ -18,7 +18,7 @@ long g c = search rules
 
 -- they have room for all of it
 room : (g : given.Over) (c : After-new-writer g) → let net = g.N.Network.meaning c.args.network.now in
-    (32 + length (pairBits c.width-of-w.result (pairsTo net.coupled net.size)) + length (spread c.width-of-w.result c.args.order.now) ≤ 8 * length c.new-writer.result.bytes.now)
+    (32 + length (pair_bits c.width-of-w.result (pairs_to net.coupled net.size)) + length (spread c.width-of-w.result c.args.order.now) ≤ 8 * length c.new-writer.result.bytes.now)
     × (length c.new-writer.result.bytes.now < 2 ^ 32)
 room g c =
     sheet-room (g.N.Network.meaning c.args.network.now) c.args.order.now _ _ _ _ (g.N.Network.lawful c.args.network.now)
@@ -29,7 +29,7 @@ put-head-requires g c =
     let net = g.N.Network.meaning c.args.network.now in
     let law = g.N.Network.lawful c.args.network.now in
     let all = room g (goal.at.put-head-requires g c).After-new-writer in
-    let head = length-headBits c.size-stations.result c.args.couplings in
+    let head = length-head_bits c.size-stations.result c.args.couplings in
     record {
       counts = (omega (arith, law.few, c.size-stations.ensures), omega (arith, c.requires.count, pairs-few net.coupled net.size law.few));
       room = (omega (arith, all.0, head, c.new-writer.ensures.place), all.1);
@@ -38,7 +38,7 @@ put-head-requires g c =
 pub put-pairs-requires : goal.put-pairs-requires
 put-pairs-requires g c =
     let all = room g (goal.at.put-pairs-requires g c).After-new-writer in
-    let head = length-headBits c.size-stations.result c.args.couplings in
+    let head = length-head_bits c.size-stations.result c.args.couplings in
     record {
       width = c.width-of-w.ensures.value ∙ ap width c.size-stations.ensures;
       room = (omega (arith, all.0, head, c.new-writer.ensures.place, c.put-head.ensures.place, c.put-head.ensures.size), omega (arith, all.1, c.put-head.ensures.size));
@@ -50,7 +50,7 @@ put-list-requires g c =
     let w = c.width-of-w.result in
     let is = faultless-order c.args.order.now net.size c.requires.order in
     let all = room g (goal.at.put-list-requires g c).After-new-writer in
-    let head = length-headBits c.size-stations.result c.args.couplings in
+    let head = length-head_bits c.size-stations.result c.args.couplings in
     let e : w ≡ width net.size = c.width-of-w.ensures.value ∙ ap width c.size-stations.ensures in
     let big : net.size ≤ 2 ^ w = omega (arith, width-holds net.size is.few, ap (λ (x : ℕ). 2 ^ x) e) in
     record {
@@ -71,13 +71,13 @@ returns g c =
     let first = c.new-writer.result in
     let last = c.put-list.new.writer in
     let head = head_bits c.size-stations.result c.args.couplings in
-    let pairs = pairBits w (pairsTo net.coupled net.size) in
+    let pairs = pair_bits w (pairs_to net.coupled net.size) in
     let parts : Puts first last (head ++ (pairs ++ spread w order)) =
     puts-both head (pairs ++ spread w order) c.put-head.ensures (puts-both pairs (spread w order) c.put-pairs.ensures c.put-list.ensures) in
-    let all : Puts first last (bitsIn (sheetFrom net order)) =
+    let all : Puts first last (bits_in (sheet_from net order)) =
     subst (Puts first last) (sheet-bits net order _ _ _ c.size-stations.ensures c.requires.count c.width-of-w.ensures.value) parts in
     let bytes : Bytes last.bytes.now = search rules in
     let e : last.bytes.now ≡ bytes_of net order =
-    wrote-pack _ _ first.bytes.now last.bytes.now (bitsIn (sheetFrom net order)) (c.new-writer.ensures.bytes ∙ c.clear.ensures) c.new-writer.ensures.place
+    wrote-pack _ _ first.bytes.now last.bytes.now (bits_in (sheet_from net order)) (c.new-writer.ensures.bytes ∙ c.clear.ensures) c.new-writer.ensures.place
     bytes (all.size ∙ long g (goal.at.returns g c).After-new-writer ∙ sheet-length net order) all.written in
     search rules

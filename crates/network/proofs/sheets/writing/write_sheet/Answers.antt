@@ -3,17 +3,17 @@ use Rattle.std.proofs.lemmas.List.{length-take-le}
 use Rattle.std.proofs.lemmas.Result.{err_from_is_err_and}
 use Rattle.network.proofs.Faults.{unless-ok, unless-err}
 use Rattle.network.proofs.WholeSheets.{need-is, write-unordered, write-short, write-fine}
-use Rattle.network.specs.Encode.{bytes_of, bufferAfter}
-use Rattle.network.specs.Orders.{orderFault}
+use Rattle.network.specs.Encode.{bytes_of, buffer_after}
+use Rattle.network.specs.Orders.{order_fault}
 use Rattle.network.specs.Refusals.{unless}
 use Rattle.network.proofs.sheets.writing.write_sheet.Given as given
 use Rattle.network.proofs.sheets.writing.write_sheet.Goals as goal
 use Rattle.network.proofs.sheets.writing.write_sheet.Goals.{After-place-of}
 
 -- the list is an order
-ordered : (g : given.Over) (c : After-place-of g) → orderFault c.args.order.now (g.N.Network.meaning c.args.network.now).size ≡ None
+ordered : (g : given.Over) (c : After-place-of g) → order_fault c.args.order.now (g.N.Network.meaning c.args.network.now).size ≡ None
 ordered g c =
-    ap (orderFault c.args.order.now) (sym c.size-n.ensures) ∙ (unless-ok (orderFault c.args.order.now c.size-n.result) tt tt c.in-ok-check-order.ensures).0
+    ap (order_fault c.args.order.now) (sym c.size-n.ensures) ∙ (unless-ok (order_fault c.args.order.now c.size-n.result) tt tt c.in-ok-check-order.ensures).0
 
 -- the length that is asked of the bytes is the sheet's
 long : (g : given.Over) (c : After-place-of g) → (c.place-of.result + 7) / 8 ≡ length (bytes_of (g.N.Network.meaning c.args.network.now) c.args.order.now)
@@ -30,7 +30,7 @@ returns-in-err-check-order g c =
     let found = write-unordered net order (length out) c.size-n.result _ c.size-n.ensures (unless-err _ _ _ c.in-err-check-order.ensures) in
     rw (p.1, p.2) (record {
       answer = sym (ap (λ o. unless o (length (bytes_of net order))) found);
-      out = sym (ap (λ o. bufferAfter o (bytes_of net order) out) found);
+      out = sym (ap (λ o. buffer_after o (bytes_of net order) out) found);
     })
 
 pub returns-then-out-need : goal.returns-then-out-need
@@ -42,7 +42,7 @@ returns-then-out-need g c =
     let found = write-short net order (length out) _ (ordered g here) (long g here) (omega arith) in
     record {
       answer = sym (ap (λ o. unless o (length (bytes_of net order))) found);
-      out = sym (ap (λ o. bufferAfter o (bytes_of net order) out) found);
+      out = sym (ap (λ o. buffer_after o (bytes_of net order) out) found);
     }
 
 pub put-sheet-requires : goal.put-sheet-requires
@@ -63,5 +63,5 @@ returns g c =
     let found = write-fine net order (length out) _ (ordered g here) (long g here) (omega arith) in
     record {
       answer = ap (λ (x : ℕ). Ok x) (long g here) ∙ sym (ap (λ o. unless o (length (bytes_of net order))) found);
-      out = ap₂ (λ (x : List ℕ) (y : ℕ). x ++ drop y out) c.put-sheet.ensures (long g here) ∙ sym (ap (λ o. bufferAfter o (bytes_of net order) out) found);
+      out = ap₂ (λ (x : List ℕ) (y : ℕ). x ++ drop y out) c.put-sheet.ensures (long g here) ∙ sym (ap (λ o. buffer_after o (bytes_of net order) out) found);
     }

@@ -4,7 +4,7 @@ use Rattle.network.specs.Refusals.{Fault, at, outcome}
 use Rattle.elimination.specs.Elimination.{filled}
 use Rattle.elimination.specs.View.{graph, listed}
 use Rattle.elimination.proofs.Least.{filled-irreflexive}
-use Rattle.plan_parts.specs.PlanStates.Question.{is-filled}
+use Rattle.plan_parts.specs.PlanStates.Question.{pair_filled}
 use Rattle.plan_parts.specs.PlanView.{view}
 use Rattle.plan_parts.specs.Reserves.{known}
 use Rattle.plan_parts.proofs.Histories.{asks}
@@ -32,8 +32,8 @@ returns c =
     let C = graph p.couplings in
     let xs = listed p.order in
     record {
-      value = c.is-filled.ensures;
-      same = λ e. made_as c.is-filled.result (filled C xs a b) false (ap (λ (x : ℕ). filled C xs a x) (sym e) ∙ filled-irreflexive C xs p.irreflexive a)
-          (answered p.order.size a b (filled C xs a b) c.is-filled.result c.is-filled.ensures);
-      history = asks (view p) (is-filled a b);
+      value = c.pair_filled.ensures;
+      same = λ e. made_as c.pair_filled.result (filled C xs a b) false (ap (λ (x : ℕ). filled C xs a x) (sym e) ∙ filled-irreflexive C xs p.irreflexive a)
+          (answered p.order.size a b (filled C xs a b) c.pair_filled.result c.pair_filled.ensures);
+      history = asks (view p) (pair_filled a b);
     }

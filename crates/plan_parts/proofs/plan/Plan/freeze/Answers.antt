@@ -1,6 +1,6 @@
 use Rattle.std.proofs.Common.{◌≡◌, ℕ, List, ◌∙◌, ap₂, rules}
 use Rattle.elimination.specs.Graphs.{Graph}
-use Rattle.plan_parts.specs.Reserves.{byPosition}
+use Rattle.plan_parts.specs.Reserves.{by_position}
 use Rattle.plan_parts.specs.PlanView.{view}
 use Rattle.plan_parts.proofs.Histories.{freezes}
 use Rattle.plan_parts.proofs.Plans.{pairs-filled}
@@ -12,6 +12,6 @@ returns c =
     record {
       size = c.reserve.ensures.size;
       order = c.reserve.ensures.order;
-      pairs = c.reserve.ensures.pairs ∙ ap₂ (λ (G : Graph) (xs : List ℕ). byPosition G xs) (pairs-filled p) c.reserve.ensures.order;
+      pairs = c.reserve.ensures.pairs ∙ ap₂ (λ (G : Graph) (xs : List ℕ). by_position G xs) (pairs-filled p) c.reserve.ensures.order;
       history = freezes (view p);
     }

@@ -1,8 +1,8 @@
 use Rattle.std.proofs.Common.{rules}
-use Rattle.plan_parts.specs.PlanStates.Question.{total-fill}
+use Rattle.plan_parts.specs.PlanStates.Question.{total_fill}
 use Rattle.plan_parts.specs.PlanView.{view}
 use Rattle.plan_parts.proofs.Histories.{asks}
 use Rattle.plan_parts.proofs.plan.Plan.total.Goals as goal
 
 pub returns : goal.returns
-returns c = record { value = search rules; history = asks (view c.args.self.now) total-fill }
+returns c = record { value = search rules; history = asks (view c.args.self.now) total_fill }

@@ -1,8 +1,8 @@
 use Rattle.std.proofs.Common.{◌≡◌, ℕ, ap, ◌∙◌, arith}
 use Rattle.elimination.specs.Graphs.{Graph, union}
 use Rattle.elimination.specs.View.{graph}
-use Rattle.plan_parts.specs.Plans.{pairsBelow}
-use Rattle.plan_parts.proofs.Couplings.{among-all, among-more, among_none, pairsAmong}
+use Rattle.plan_parts.specs.Plans.{pairs_below}
+use Rattle.plan_parts.proofs.Couplings.{among-all, among-more, among_none, pairs_among}
 use Rattle.plan_parts.proofs.plan.couplings.couplings_of.Goals as goal
 
 pub loop-a-init : goal.loop-a-init
@@ -15,7 +15,7 @@ loop-a-preserved g c =
     let network = c.args.network.now in
     let net = g.N.Network.meaning network in
     c.take-row.ensures
-    ∙ ap (λ (G : Graph). union G (pairsBelow net.coupled c.loop-a.a c.loop-a.a)) c.loop-a.invariant
+    ∙ ap (λ (G : Graph). union G (pairs_below net.coupled c.loop-a.a c.loop-a.a)) c.loop-a.invariant
     ∙ among-more net (g.N.Network.lawful network) c.loop-a.a
 
 pub returns : goal.returns
@@ -23,4 +23,4 @@ returns g c =
     let network = c.args.network.now in
     let net = g.N.Network.meaning network in
     let e : c.loop-a.a ≡ net.size = omega (arith, c.size-a-end.ensures) in
-    c.loop-a.invariant ∙ ap (λ (n : ℕ). pairsAmong net.coupled n) e ∙ among-all net (g.N.Network.lawful network)
+    c.loop-a.invariant ∙ ap (λ (n : ℕ). pairs_among net.coupled n) e ∙ among-all net (g.N.Network.lawful network)

@@ -1,9 +1,9 @@
 use Rattle.std.proofs.Common.{◌≡◌, ℕ, ◌<◌, min, max, Bool, true, false, cond, ltb, Ok, Err, Option, Result, sym, refl, ap, ◌∙◌, ap₂, arith}
 use Rattle.std.proofs.lemmas.Bool.{cond-true}
 use Rattle.network.specs.Refusals.{Fault, at}
-use Rattle.plan_parts.specs.Layout.{cell, placeOf}
+use Rattle.plan_parts.specs.Layout.{cell, place_for}
 use Rattle.plan_parts.specs.Reserves.{known}
-use Rattle.plan_parts.specs.ReserveView.{filledIn, order_in, sizeIn}
+use Rattle.plan_parts.specs.ReserveView.{filled_in, order_in, size_in}
 use Rattle.elimination.specs.Orders.{position_of}
 use Rattle.plan_parts.proofs.reserve.Reserve.place.Goals as goal
 
@@ -15,17 +15,17 @@ known-ok {X} n a x y = go (ltb a n) refl
     go false t e = absurd (let z : ◌≡◌ {A = ℕ} 0 1 = cc in omega arith)
 
 pub returns : goal.returns
-unfolding placeOf
+unfolding place_for
 returns c =
     let r = c.args.self.now in
-    let n = sizeIn r in
+    let n = size_in r in
     let a = c.args.a in
     let b = c.args.b in
-    let F = filledIn r in
+    let F = filled_in r in
     let i = known-ok n a c.in-ok-i.field-0 (position_of (order_in r) a) c.in-ok-i.ensures.value in
     let j = known-ok n b c.in-ok-j.field-0 (position_of (order_in r) b) c.in-ok-j.ensures.value in
-    let answer : Result (Option ℕ) Fault = Ok (placeOf F n (position_of (order_in r) a) (position_of (order_in r) b)) in
+    let answer : Result (Option ℕ) Fault = Ok (place_for F n (position_of (order_in r) a) (position_of (order_in r) b)) in
     let inner : Result (Option ℕ) Fault = known n b answer in
     ap (λ (o : Option ℕ). Ok o)
-    (c.cell.ensures ∙ ap₂ (λ (x y : ℕ). cell F n x y) c.max.ensures c.min.ensures ∙ ap₂ (λ (x y : ℕ). placeOf F n x y) i.1 j.1)
+    (c.cell.ensures ∙ ap₂ (λ (x y : ℕ). cell F n x y) c.max.ensures c.min.ensures ∙ ap₂ (λ (x y : ℕ). place_for F n x y) i.1 j.1)
     ∙ sym (cond-true (ltb a n) inner (Err (at 15 a)) i.0 ∙ cond-true (ltb b n) answer (Err (at 15 b)) j.0)

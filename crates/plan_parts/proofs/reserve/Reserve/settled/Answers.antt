@@ -4,7 +4,7 @@ use Rattle.elimination.specs.View.{graph, listed}
 use Rattle.elimination.proofs.Listing.{order-of, listed-length}
 use Rattle.elimination.proofs.Relations.{closed-from}
 use Rattle.plan_parts.specs.Layout.{Closed}
-use Rattle.plan_parts.specs.Reserves.{Symmetric, Irreflexive, Below, Begins, byPosition}
+use Rattle.plan_parts.specs.Reserves.{Symmetric, Irreflexive, Below, Begins, by_position}
 use Rattle.plan_parts.proofs.Positions.{position-symmetric, position-irreflexive, position-below, position-closed}
 use Rattle.plan_parts.proofs.reserve.Reserve.settled.Goals as goal
 
@@ -14,10 +14,10 @@ invariant-of-result c =
     let n = c.args.order.size in
     let G : Graph = graph c.args.pairs.now in
     let F : Graph = graph c.by-positions-pairs.result in
-    let e : byPosition G xs ≡ F = sym c.by-positions-pairs.ensures in
+    let e : by_position G xs ≡ F = sym c.by-positions-pairs.ensures in
     let l = listed-length c.args.order in
-    let below : Below (byPosition G xs) n = subst (λ (m : ℕ). Below (byPosition G xs) m) l (position-below G xs) in
-    let closed : Closed (byPosition G xs) n = subst (λ (m : ℕ). Closed (byPosition G xs) m) l (position-closed G xs c.requires.simple.symmetric (order-of c.args.order).once (closed-from G xs c.requires.closed)) in (
+    let below : Below (by_position G xs) n = subst (λ (m : ℕ). Below (by_position G xs) m) l (position-below G xs) in
+    let closed : Closed (by_position G xs) n = subst (λ (m : ℕ). Closed (by_position G xs) m) l (position-closed G xs c.requires.simple.symmetric (order-of c.args.order).once (closed-from G xs c.requires.closed)) in (
       c.requires.some,
       (
         c.by-positions-pairs.result.mirrored,

@@ -5,14 +5,14 @@ use Rattle.elimination.specs.Graphs.{Graph}
 use Rattle.elimination.specs.View.{graph, listed}
 use Rattle.elimination.proofs.Listing.{order-of, listed-length}
 use Rattle.elimination.proofs.Rows.{rows-below}
-use Rattle.plan_parts.specs.Reserves.{byPosition}
+use Rattle.plan_parts.specs.Reserves.{by_position}
 use Rattle.plan_parts.proofs.Positions.{row-none, placed-more, placed-all}
 use Rattle.plan_parts.proofs.reserve.parts.place_pairs.Goals as goal
 
 pub loop-b-init : goal.loop-b-init
 loop-b-init c =
     let xs = listed c.args.order.now in
-    (row-none (graph c.args.placed.now) (byPosition (graph c.args.pairs.now) xs) xs c.args.i, omega arith)
+    (row-none (graph c.args.placed.now) (by_position (graph c.args.pairs.now) xs) xs c.args.i, omega arith)
 
 pub loop-b-preserved : goal.loop-b-preserved
 loop-b-preserved c =

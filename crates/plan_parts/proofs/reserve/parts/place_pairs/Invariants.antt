@@ -1,11 +1,11 @@
 use Rattle.std.proofs.Common.{◌≡◌, ◌-◌, ◌≤◌}
 use Rattle.elimination.specs.View.{graph, listed}
-use Rattle.plan_parts.specs.Reserves.{byPosition}
-use Rattle.plan_parts.proofs.Positions.{reached, rowTo}
+use Rattle.plan_parts.specs.Reserves.{by_position}
+use Rattle.plan_parts.proofs.Positions.{reached, row_to}
 use Rattle.plan_parts.proofs.reserve.parts.place_pairs.Given as goal
 
 abbrev pub invariant-loop-b : goal.invariant-loop-b
-invariant-loop-b l = (graph l.placed ≡ rowTo (graph l.initial.placed) l.i (reached (byPosition (graph l.pairs) (listed l.order)) (listed l.order) l.i l.from)) × (l.from ≤ 512)
+invariant-loop-b l = (graph l.placed ≡ row_to (graph l.initial.placed) l.i (reached (by_position (graph l.pairs) (listed l.order)) (listed l.order) l.i l.from)) × (l.from ≤ 512)
 
 abbrev pub decreases-loop-b : goal.decreases-loop-b
 decreases-loop-b l = 512 - l.from

@@ -1,5 +1,5 @@
 use Rattle.std.proofs.Common.{length}
-use Rattle.plan_parts.specs.ReserveView.{filledIn, order_in, sizeIn}
+use Rattle.plan_parts.specs.ReserveView.{filled_in, order_in, size_in}
 use Rattle.run_parts.proofs.Calls.{checked, place-within}
 use Rattle.run_parts.proofs.states.Ended.entry.Goals as goal
 
@@ -8,5 +8,5 @@ entry-at-requires g c =
     let R = c.args.self.now.reserve.now in
     let es = c.args.entries.now in
     let ms = c.args.marks.now in
-    let k = checked (filledIn R) (sizeIn R) (order_in R) (length es) (length ms) c.args.a c.args.b c.in-ok-place.place c.in-ok-place.ensures in
-    place-within (filledIn R) (sizeIn R) (order_in R) c.args.a c.args.b es ms c.in-ok-place.place k.place (k.entries-long, k.marks-long)
+    let k = checked (filled_in R) (size_in R) (order_in R) (length es) (length ms) c.args.a c.args.b c.in-ok-place.place c.in-ok-place.ensures in
+    place-within (filled_in R) (size_in R) (order_in R) c.args.a c.args.b es ms c.in-ok-place.place k.place (k.entries_long, k.marks_long)

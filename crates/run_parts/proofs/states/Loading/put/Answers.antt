@@ -1,5 +1,5 @@
 use Rattle.std.proofs.Common.{◌≡◌, length, Some, sym, ◌∙◌}
-use Rattle.plan_parts.specs.ReserveView.{filledIn, order_in, sizeIn}
+use Rattle.plan_parts.specs.ReserveView.{filled_in, order_in, size_in}
 use Rattle.run_parts.specs.Kinds.{kind}
 use Rattle.run_parts.specs.Places.{place_in}
 use Rattle.run_parts.specs.Tables.{Room}
@@ -11,22 +11,22 @@ store-requires g c =
     let R = c.args.self.now.reserve.now in
     let es = c.args.entries.now in
     let ms = c.args.marks.now in
-    let k = checked (filledIn R) (sizeIn R) (order_in R) (length es) (length ms) c.args.a c.args.b c.in-ok-place.place c.in-ok-place.ensures in
-    let within = place-within (filledIn R) (sizeIn R) (order_in R) c.args.a c.args.b es ms (Some c.in-Some.p) (sym c.in-Some.is ∙ k.place) (k.entries-long, k.marks-long) in
+    let k = checked (filled_in R) (size_in R) (order_in R) (length es) (length ms) c.args.a c.args.b c.in-ok-place.place c.in-ok-place.ensures in
+    let within = place-within (filled_in R) (size_in R) (order_in R) c.args.a c.args.b es ms (Some c.in-Some.p) (sym c.in-Some.is ∙ k.place) (k.entries_long, k.marks_long) in
     record { entry = within.0; mark = within.1 }
 
 pub returns : goal.returns
 returns g c =
     let K = kind g.E.Entry.usable g.E.Entry.first g.E.Entry.more in
     let R = c.args.self.now.reserve.now in
-    let F = filledIn R in
-    let n = sizeIn R in
+    let F = filled_in R in
+    let n = size_in R in
     let es = c.args.entries.now in
     let ms = c.args.marks.now in
     let a = c.args.a in
     let b = c.args.b in
     let k = checked F n (order_in R) (length es) (length ms) a b c.in-ok-place.place c.in-ok-place.ensures in
-    let room : Room F n es ms = (k.entries-long, k.marks-long) in
+    let room : Room F n es ms = (k.entries_long, k.marks_long) in
     let here : place_in R a b ≡ Some c.in-Some.p = sym k.place ∙ c.in-Some.is in
     record {
       value = sym (put-ok F n (order_in R) _ _ a b c.in-Some.p k.first k.second room.0 room.1 here);

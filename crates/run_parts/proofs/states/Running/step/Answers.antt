@@ -1,10 +1,10 @@
 use Rattle.std.proofs.Common.{◌≡◌, ◌<◌, true, false, eqb, ◌≢◌, length, sym, ◌∙◌, arith, rules}
 use Rattle.std.proofs.lemmas.Bool.{eqb-false}
 use Rattle.plan_parts.specs.Layout.{places}
-use Rattle.plan_parts.specs.ReserveView.{filledIn, order_in, sizeIn}
+use Rattle.plan_parts.specs.ReserveView.{filled_in, order_in, size_in}
 use Rattle.run_parts.specs.Kinds.{kind}
 use Rattle.run_parts.specs.Square.{pivot, pivotal}
-use Rattle.run_parts.specs.Tables.{Room, squareOf}
+use Rattle.run_parts.specs.Tables.{Room, square_of}
 use Rattle.run_parts.proofs.Calls.{pivot-made, roomy-ok, step-goes}
 use Rattle.run_parts.proofs.Written.{entries-written, marks-written}
 use Rattle.run_parts.proofs.states.Running.step.Goals as goal
@@ -13,8 +13,8 @@ pub returns : goal.returns
 returns g c =
     let K = kind g.E.Entry.usable g.E.Entry.first g.E.Entry.more in
     let R = c.args.self.now.reserve.now in
-    let F = filledIn R in
-    let n = sizeIn R in
+    let F = filled_in R in
+    let n = size_in R in
     let k = c.args.self.now.made in
     let es = c.args.entries.now in
     let ms = c.args.marks.now in
@@ -23,20 +23,20 @@ returns g c =
     let open-end : eqb k n ≡ false = sym c.all-made.ensures ∙ c.if-all-made.false in
     let left : k ≢ n = eqb-false k n open-end in
     let lt : k < n = omega (arith, left, c.args.self.now.some) in
-    let usable : pivotal K (squareOf F n es ms k k) ≡ true = pivot-made K k (squareOf F n es ms k k) _ c.in-ok-make-pivot.ensures.value in
+    let usable : pivotal K (square_of F n es ms k k) ≡ true = pivot-made K k (square_of F n es ms k k) _ c.in-ok-make-pivot.ensures.value in
     let pivoted = c.in-ok-make-pivot.ensures.tables in
     record {
       reserve = c.count.ensures.reserve;
       value = sym (roomy-ok (places F n) (length es) (length ms) _ room.0 room.1 ∙ simp (open-end, usable));
       made = c.count.ensures.made;
-      entries = entries-written F n (pivot K k (squareOf F n es ms)) es ms _ _ room pivoted.kept pivoted.square;
-      marks = marks-written F n (pivot K k (squareOf F n es ms)) es ms _ _ room pivoted.kept pivoted.square;
+      entries = entries-written F n (pivot K k (square_of F n es ms)) es ms _ _ room pivoted.kept pivoted.square;
+      marks = marks-written F n (pivot K k (square_of F n es ms)) es ms _ _ room pivoted.kept pivoted.square;
       history = λ sq put h agrees. rw c.count.ensures.made (step-goes K F n (order_in R) R.closed es ms room _ _ sq put k lt usable pivoted h agrees);
     }
 
 pub returns-in-err-make-pivot : goal.returns-in-err-make-pivot
 returns-in-err-make-pivot g c =
     let k = c.args.self.now.made in
-    let n = sizeIn c.args.self.now.reserve.now in
+    let n = size_in c.args.self.now.reserve.now in
     let left : k ≢ n = eqb-false k n (sym c.all-made.ensures ∙ c.if-all-made.false) in
     search rules

@@ -1,5 +1,5 @@
 use Rattle.std.proofs.Common.{ℕ, List, sym, subst, arith}
-use Rattle.plan_parts.specs.ReserveView.{filledIn, sizeIn}
+use Rattle.plan_parts.specs.ReserveView.{filled_in, size_in}
 use Rattle.run_parts.specs.Histories.{Agrees}
 use Rattle.run_parts.specs.Histories.RunHistory.{started}
 use Rattle.run_parts.specs.Square.{empty}
@@ -14,9 +14,9 @@ returns g c =
     let es = c.args.entries.now in
     let ms = c.args.marks.now in
     let long = c.in-default.ensures.room in
-    let room : Room (filledIn R) (sizeIn R) es ms = (omega (arith, long.0), omega (arith, long.1)) in
+    let room : Room (filled_in R) (size_in R) es ms = (omega (arith, long.0), omega (arith, long.1)) in
     record {
       value = sym (roomy-ok _ _ _ _ room.0 room.1);
       marks = c.clear-places.ensures;
-      history = (started, subst (λ (xs : List ℕ). Agrees (filledIn R) (sizeIn R) es xs empty) (sym c.clear-places.ensures) (zeroed-agrees (filledIn R) (sizeIn R) es ms));
+      history = (started, subst (λ (xs : List ℕ). Agrees (filled_in R) (size_in R) es xs empty) (sym c.clear-places.ensures) (zeroed-agrees (filled_in R) (size_in R) es ms));
     }
