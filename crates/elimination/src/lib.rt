@@ -1,5 +1,7 @@
 //! Elimination of stations: sets of pairs, orders, filled pairs, and the algorithms that find orders with little fill.
 //! An inner crate: the plan stands on it, and no user calls it.
+#![tactic(auto)]
+
 mod dropping;
 mod engine;
 pub mod examples;

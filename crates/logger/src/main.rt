@@ -1,5 +1,7 @@
 //! A logger in the field: it reads one sheet on standard input, writes it again into a second buffer,
 //! and prints what it found. It carries no plan.
+#![tactic(auto)]
+
 mod report;
 
 use report::{Report, inspect};

@@ -1,5 +1,7 @@
 //! Networks of gauge stations: refusals, the questions that a network answers,
 //! and the packed sheets and neighbour lists that networks are read from.
+#![tactic(auto)]
+
 mod bit_fields;
 mod list_network;
 mod lists;

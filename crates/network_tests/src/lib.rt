@@ -1,5 +1,7 @@
 //! Tests of the network crate: its limits, each of its refusals, sheets that go round, and damaged sheets.
 //! Sheets are built and judged here by another method, over a list of single bits.
+#![tactic(auto)]
+
 mod bit_string;
 #[cfg(test)]
 mod lists;

@@ -1,5 +1,7 @@
 //! Parts of the plan: one network's couplings, an order and the filled pairs of that order; and the reserve frozen from it.
 //! An inner crate: no user calls it. Its calls become public together with the run's and with what holds of them all.
+#![tactic(auto)]
+
 mod orders;
 mod plan;
 mod reserve;
