@@ -4,4 +4,4 @@ use Rattle.network.proofs.bit_fields.field_of.Goals as goal
 
 pub returns : goal.returns
 returns c =
-    field-in-window c.args.bytes.now c.args.at c.args.width c.window-of-window.result (omega arith) c.window-of-window.ensures.field
+    field-in-window c.args.bytes.now c.args.at c.args.width c.window_of-window.result (omega arith) c.window_of-window.ensures.field

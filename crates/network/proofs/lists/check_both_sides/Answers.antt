@@ -7,16 +7,16 @@ use Rattle.network.proofs.lists.check_both_sides.Goals as goal
 pub loop-namer-init : goal.loop-namer-init
 loop-namer-init c = walk_none _ 0 refl
 
-pub returns-in-err-check-both-sides-of : goal.returns-in-err-check-both-sides-of
-returns-in-err-check-both-sides-of c =
-    let p = err_from_is_err_and c.from-residual.result c.from-residual.ensures.1 in
+pub returns-in_err-check_both_sides_of : goal.returns-in_err-check_both_sides_of
+returns-in_err-check_both_sides_of c =
+    let p = err_from_is_err_and c.from_residual.result c.from_residual.ensures.1 in
     let found = row_fault c.args.starts.now (one_sided_fault c.args.starts.now c.args.names.now) in
     let s = c.loop-namer.namer in
     rw (p.1, p.2)
-    (answer_err _ _ (walk-found found s _ _ c.loop-namer.invariant (was-err (found s) _ c.in-err-check-both-sides-of.ensures) (omega arith)))
+    (answer_err _ _ (walk-found found s _ _ c.loop-namer.invariant (was-err (found s) _ c.in_err-check_both_sides_of.ensures) (omega arith)))
 
 pub loop-namer-preserved : goal.loop-namer-preserved
 loop-namer-preserved c =
     let s = c.loop-namer.namer in
     let found = row_fault c.args.starts.now (one_sided_fault c.args.starts.now c.args.names.now) in
-    walk_more found s _ (add-one s) c.loop-namer.invariant (was-ok (found s) c.in-ok-check-both-sides-of.ensures)
+    walk_more found s _ (add-one s) c.loop-namer.invariant (was-ok (found s) c.in_ok-check_both_sides_of.ensures)

@@ -14,8 +14,8 @@ pub bounds-names-k : goal.bounds-names-k
 bounds-names-k c =
     omega (arith, (list-within c.args.starts.now c.args.names.now c.requires.starts c.args.namer c.requires.station).1)
 
-pub is-named-requires : goal.is-named-requires
-is-named-requires c =
+pub is_named-requires : goal.is_named-requires
+is_named-requires c =
     let starts = c.args.starts.now in
     let names = c.args.names.now in
     let fits = name-none starts names (list_size starts) c.requires.names c.args.namer c.loop-k.k c.requires.station (omega arith) (omega arith) in
@@ -25,18 +25,18 @@ is-named-requires c =
       names = c.requires.names;
     }
 
-pub returns-then-not-is-named : goal.returns-then-not-is-named
+pub returns-then-not-is_named : goal.returns-then-not-is_named
 unfolding row_fault
-returns-then-not-is-named c =
+returns-then-not-is_named c =
     let k = c.loop-k.k in
     let found = one_sided_fault c.args.starts.now c.args.names.now c.args.namer in
-    answer_err _ _ (part-found found _ k _ (at 12 k) (omega arith) (omega arith) c.loop-k.invariant (cond-false _ _ _ (sym c.if-not-is-named.ensures)))
+    answer_err _ _ (part-found found _ k _ (at 12 k) (omega arith) (omega arith) c.loop-k.invariant (cond-false _ _ _ (sym c.if-not-is_named.ensures)))
 
 pub loop-k-preserved : goal.loop-k-preserved
 loop-k-preserved c =
     let k = c.loop-k.k in
     let found = one_sided_fault c.args.starts.now c.args.names.now c.args.namer in
-    part-more found _ k (omega arith) c.loop-k.invariant (cond-true _ _ _ (sym c.if-not-is-named.ensures))
+    part-more found _ k (omega arith) c.loop-k.invariant (cond-true _ _ _ (sym c.if-not-is_named.ensures))
 
 pub returns : goal.returns
 unfolding row_fault

@@ -7,16 +7,16 @@ use Rattle.network.proofs.lists.check_names.Goals as goal
 pub loop-station-init : goal.loop-station-init
 loop-station-init c = walk_none _ 0 refl
 
-pub returns-in-err-check-names-of : goal.returns-in-err-check-names-of
-returns-in-err-check-names-of c =
-    let p = err_from_is_err_and c.from-residual.result c.from-residual.ensures.1 in
+pub returns-in_err-check_names_of : goal.returns-in_err-check_names_of
+returns-in_err-check_names_of c =
+    let p = err_from_is_err_and c.from_residual.result c.from_residual.ensures.1 in
     let found = row_fault c.args.starts.now (name_fault c.args.starts.now c.args.names.now) in
     let s = c.loop-station.station in
     rw (p.1, p.2)
-    (answer_err _ _ (walk-found found s _ _ c.loop-station.invariant (was-err (found s) _ c.in-err-check-names-of.ensures) (omega arith)))
+    (answer_err _ _ (walk-found found s _ _ c.loop-station.invariant (was-err (found s) _ c.in_err-check_names_of.ensures) (omega arith)))
 
 pub loop-station-preserved : goal.loop-station-preserved
 loop-station-preserved c =
     let s = c.loop-station.station in
     let found = row_fault c.args.starts.now (name_fault c.args.starts.now c.args.names.now) in
-    walk_more found s _ (add-one s) c.loop-station.invariant (was-ok (found s) c.in-ok-check-names-of.ensures)
+    walk_more found s _ (add-one s) c.loop-station.invariant (was-ok (found s) c.in_ok-check_names_of.ensures)

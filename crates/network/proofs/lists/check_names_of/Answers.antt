@@ -9,23 +9,23 @@ use Rattle.network.proofs.lists.check_names_of.Goals as goal
 pub loop-k-init : goal.loop-k-init
 loop-k-init c = part_none (name_fault c.args.starts.now c.args.names.now c.args.station) (get_or c.args.starts.now c.args.station 0)
 
-pub name-fits-requires : goal.name-fits-requires
-name-fits-requires c =
+pub name_fits-requires : goal.name_fits-requires
+name_fits-requires c =
     let within = (list-within c.args.starts.now c.args.names.now c.requires.starts c.args.station c.requires.station).1 in
     (omega arith, omega (arith, within))
 
-pub returns-then-not-name-fits : goal.returns-then-not-name-fits
+pub returns-then-not-name_fits : goal.returns-then-not-name_fits
 unfolding row_fault
-returns-then-not-name-fits c =
+returns-then-not-name_fits c =
     let k = c.loop-k.k in
     let found = name_fault c.args.starts.now c.args.names.now c.args.station in
-    answer_err _ _ (part-found found _ k _ (at 11 k) (omega arith) (omega arith) c.loop-k.invariant (cond-false _ _ _ (sym c.if-not-name-fits.ensures)))
+    answer_err _ _ (part-found found _ k _ (at 11 k) (omega arith) (omega arith) c.loop-k.invariant (cond-false _ _ _ (sym c.if-not-name_fits.ensures)))
 
 pub loop-k-preserved : goal.loop-k-preserved
 loop-k-preserved c =
     let k = c.loop-k.k in
     let found = name_fault c.args.starts.now c.args.names.now c.args.station in
-    part-more found _ k (omega arith) c.loop-k.invariant (cond-true _ _ _ (sym c.if-not-name-fits.ensures))
+    part-more found _ k (omega arith) c.loop-k.invariant (cond-true _ _ _ (sym c.if-not-name_fits.ensures))
 
 pub returns : goal.returns
 unfolding row_fault

@@ -9,16 +9,16 @@ use Rattle.network.proofs.Marks.{named_start, mark-more}
 use Rattle.network.proofs.orders.check_stations.Goals as goal
 
 pub loop-k-init : goal.loop-k-init
-loop-k-init c = (fault-none _ 0 (omega arith), omega arith, λ v h. c.no-marks-seen.ensures v ∙ sym (named_start _ v))
+loop-k-init c = (fault-none _ 0 (omega arith), omega arith, λ v h. c.no_marks-seen.ensures v ∙ sym (named_start _ v))
 
-pub returns-then-not-is-new : goal.returns-then-not-is-new
+pub returns-then-not-is_new : goal.returns-then-not-is_new
 unfolding station_fault
-returns-then-not-is-new c =
+returns-then-not-is_new c =
     let xs = c.args.order.now in
     let k = c.loop-k.k in
     let f = station_fault xs c.args.n in
     let seen : get_or xs k 0 < c.args.n → get_or c.loop-k.seen (get_or xs k 0) false ≡ among xs k (get_or xs k 0) = λ lt. c.loop-k.invariant.2 (get_or xs k 0) (omega (arith, c.requires.1)) in
-    let told = c.if-not-is-new.ensures in
+    let told = c.if-not-is_new.ensures in
     let here : f k ≡ refuse 14 k =
     ⊎_elim
     (λ lt. let m = seen lt in grind (arith, nat_tests))
@@ -33,7 +33,7 @@ loop-k-preserved c =
     let k = c.loop-k.k in
     let v = get_or xs k 0 in
     let f = station_fault xs c.args.n in
-    let told = c.if-not-is-new.ensures in
+    let told = c.if-not-is_new.ensures in
     let known : v < c.args.n = ltb-true _ _ (and_parts (ltb v c.args.n) _ (sym told)).0 in
     let m = c.loop-k.invariant.2 v (omega arith) in
     let here : f k ≡ None = grind (arith, nat_tests) in (

@@ -3,8 +3,8 @@ use Rattle.network.specs.Lists.{lists_fault}
 use Rattle.network.specs.ListLaws.{no-fault, checks-passed}
 use Rattle.network.proofs.list_network.ListNetworkNetwork.coupled.Goals as goal
 
-pub is-named-requires : goal.is-named-requires
-is-named-requires c =
+pub is_named-requires : goal.is_named-requires
+is_named-requires c =
     let s = c.args.self.now in
     let all = checks-passed s.starts.now s.names.now (no-fault (lists_fault s.starts.now s.names.now) s.faultless) in
     record { station = omega arith; starts = all.2; names = all.3 }

@@ -8,9 +8,9 @@ use Rattle.network.specs.Sheets.{width, width_to}
 use Rattle.network.specs.Decode.{fault, header_fault, body_fault, pair_fault, placed_fault, end_fault, sheet_of, couplings_of, order_of, place_for, value_at}
 use Rattle.network.proofs.sheets.SheetNetwork.lone.Goals as goal
 
-pub invariant-of-result : goal.invariant-of-result
+pub invariant_of-result : goal.invariant_of-result
 unfolding fault header_fault body_fault first_fault pair_fault placed_fault end_fault named_before place_for value_at width width_to field bit_of bit_at
-invariant-of-result c = ((refl, refl, refl), (omega arith, (omega arith, tt)))
+invariant_of-result c = record { stands = (refl, refl, refl); some = omega arith; few = omega arith }
 
 pub returns : goal.returns
 unfolding couplings_of order_of place_for value_at width width_to field bit_of bit_at

@@ -11,13 +11,13 @@ pub loop-k-init : goal.loop-k-init
 unfolding place_for
 loop-k-init c = (omega (arith, c.requires.place), omega arith, λ h. absurd (omega arith), λ h. absurd (omega arith), fault-none _ 0 (omega arith), refl)
 
-pub returns-in-err-last : goal.returns-in-err-last
-returns-in-err-last c =
-    let p = err_from_is_err_and c.from-residual.result c.from-residual.ensures.1 in
+pub returns-in_err-last : goal.returns-in_err-last
+returns-in_err-last c =
+    let p = err_from_is_err_and c.from_residual.result c.from_residual.ensures.1 in
     let bs = c.args.reader.now.bytes.now in
     let k = c.loop-k.k in
     let f = pair_fault bs c.args.n c.args.w in
-    let here = unless-err (f k) _ _ (c.in-err-last.ensures.value ∙ ap (λ l. pair_of l c.args.n c.args.w k) c.loop-k.invariant.5) in
+    let here = unless-err (f k) _ _ (c.in_err-last.ensures.value ∙ ap (λ l. pair_of l c.args.n c.args.w k) c.loop-k.invariant.5) in
     let first = fault-found f k c.args.m _ c.loop-k.invariant.4 here (omega arith) in
     rw (p.1, p.2) (record { value = sym (ap (λ o. unless o tt) first); place = tt; bytes = search rules })
 
@@ -27,8 +27,8 @@ loop-k-preserved c =
     let w = c.args.w in
     let k = c.loop-k.k in
     let f = pair_fault bs c.args.n w in
-    let was = c.in-ok-last.ensures in
-    let got = unless-ok (f k) (value_at bs w (2 * k), value_at bs w (2 * k + 1)) c.in-ok-last.last (was.value ∙ ap (λ l. pair_of l c.args.n w k) c.loop-k.invariant.5) in
+    let was = c.in_ok-last.ensures in
+    let got = unless-ok (f k) (value_at bs w (2 * k), value_at bs w (2 * k + 1)) c.in_ok-last.last (was.value ∙ ap (λ l. pair_of l c.args.n w k) c.loop-k.invariant.5) in
     let e : 2 * (k + 1) ≡ 2 * k + 1 + 1 = omega arith in (
       omega (arith, was.place, ap (place_for w) e, place-next w (2 * k), place-next w (2 * k + 1)),
       omega (arith, was.place),

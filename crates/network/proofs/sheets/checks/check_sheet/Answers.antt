@@ -6,59 +6,59 @@ use Rattle.network.proofs.Faults.{or_else-some, or_else-past, unless-err, unless
 use Rattle.network.proofs.Stages.{head-err, head_ok, body-pairs, body-order, decode-err, decode-ok}
 use Rattle.network.proofs.sheets.checks.check_sheet.Goals as goal
 
-pub returns-in-err-counts : goal.returns-in-err-counts
-returns-in-err-counts c =
-    let p = err_from_is_err_and c.from-residual.result c.from-residual.ensures.1 in
+pub returns-in_err-counts : goal.returns-in_err-counts
+returns-in_err-counts c =
+    let p = err_from_is_err_and c.from_residual.result c.from_residual.ensures.1 in
     let bs = c.args.sheet.now in
-    rw (p.1, p.2) (record { value = decode-err bs _ (head-err bs _ c.in-err-counts.ensures.value); stands = tt; small = tt })
+    rw (p.1, p.2) (record { value = decode-err bs _ (head-err bs _ c.in_err-counts.ensures.value); stands = tt; small = tt })
 
-pub returns-in-err-check-pairs : goal.returns-in-err-check-pairs
-returns-in-err-check-pairs c =
-    let p = err_from_is_err_and c.from-residual-in-err-check-pairs.result c.from-residual-in-err-check-pairs.ensures.1 in
+pub returns-in_err-check_pairs : goal.returns-in_err-check_pairs
+returns-in_err-check_pairs c =
+    let p = err_from_is_err_and c.from_residual-in_err-check_pairs.result c.from_residual-in_err-check_pairs.ensures.1 in
     let bs = c.args.sheet.now in
-    let n = c.in-ok-counts.counts.stations in
-    let m = c.in-ok-counts.counts.couplings in
-    let head = head_ok bs c.in-ok-counts.counts c.in-ok-counts.ensures.value in
-    let body = body-pairs bs _ n m c.width-of-w.result c.new-reader.ensures.bytes c.width-of-w.ensures.value _ c.in-err-check-pairs.ensures.value in
+    let n = c.in_ok-counts.counts.stations in
+    let m = c.in_ok-counts.counts.couplings in
+    let head = head_ok bs c.in_ok-counts.counts c.in_ok-counts.ensures.value in
+    let body = body-pairs bs _ n m c.width_of-w.result c.new-reader.ensures.bytes c.width_of-w.ensures.value _ c.in_err-check_pairs.ensures.value in
     rw (p.1, p.2) (record { value = decode-err bs _ (head ∙ body); stands = tt; small = tt })
 
-pub returns-in-err-check-stations : goal.returns-in-err-check-stations
-returns-in-err-check-stations c =
-    let p = err_from_is_err_and c.from-residual-in-err-check-stations.result c.from-residual-in-err-check-stations.ensures.1 in
+pub returns-in_err-check_stations : goal.returns-in_err-check_stations
+returns-in_err-check_stations c =
+    let p = err_from_is_err_and c.from_residual-in_err-check_stations.result c.from_residual-in_err-check_stations.ensures.1 in
     let bs = c.args.sheet.now in
-    let n = c.in-ok-counts.counts.stations in
-    let m = c.in-ok-counts.counts.couplings in
-    let w = c.width-of-w.result in
-    let head = head_ok bs c.in-ok-counts.counts c.in-ok-counts.ensures.value in
-    let body = body-order bs _ n m w c.new-reader.ensures.bytes c.width-of-w.ensures.value c.in-ok-check-pairs.ensures.value in
-    let same = c.in-ok-check-pairs.ensures.bytes ∙ c.new-reader.ensures.bytes in
-    let found = sym (ap (λ l. first_fault (placed_fault l n w (2 * m)) n) same) ∙ unless-err _ tt _ c.in-err-check-stations.ensures.value in
+    let n = c.in_ok-counts.counts.stations in
+    let m = c.in_ok-counts.counts.couplings in
+    let w = c.width_of-w.result in
+    let head = head_ok bs c.in_ok-counts.counts c.in_ok-counts.ensures.value in
+    let body = body-order bs _ n m w c.new-reader.ensures.bytes c.width_of-w.ensures.value c.in_ok-check_pairs.ensures.value in
+    let same = c.in_ok-check_pairs.ensures.bytes ∙ c.new-reader.ensures.bytes in
+    let found = sym (ap (λ l. first_fault (placed_fault l n w (2 * m)) n) same) ∙ unless-err _ tt _ c.in_err-check_stations.ensures.value in
     rw (p.1, p.2) (record { value = decode-err bs _ (head ∙ body ∙ or_else-some _ _ _ found); stands = tt; small = tt })
 
-pub returns-in-err-check-end : goal.returns-in-err-check-end
-returns-in-err-check-end c =
-    let p = err_from_is_err_and c.from-residual-in-err-check-end.result c.from-residual-in-err-check-end.ensures.1 in
+pub returns-in_err-check_end : goal.returns-in_err-check_end
+returns-in_err-check_end c =
+    let p = err_from_is_err_and c.from_residual-in_err-check_end.result c.from_residual-in_err-check_end.ensures.1 in
     let bs = c.args.sheet.now in
-    let n = c.in-ok-counts.counts.stations in
-    let m = c.in-ok-counts.counts.couplings in
-    let w = c.width-of-w.result in
-    let head = head_ok bs c.in-ok-counts.counts c.in-ok-counts.ensures.value in
-    let body = body-order bs _ n m w c.new-reader.ensures.bytes c.width-of-w.ensures.value c.in-ok-check-pairs.ensures.value in
-    let same = c.in-ok-check-pairs.ensures.bytes ∙ c.new-reader.ensures.bytes in
-    let none = sym (ap (λ l. first_fault (placed_fault l n w (2 * m)) n) same) ∙ (unless-ok _ tt tt c.in-ok-check-stations.ensures.value).0 in
-    let found = ap (end_fault bs) (sym c.place-of.ensures.value) ∙ unless-err _ tt _ c.in-err-check-end.ensures in
+    let n = c.in_ok-counts.counts.stations in
+    let m = c.in_ok-counts.counts.couplings in
+    let w = c.width_of-w.result in
+    let head = head_ok bs c.in_ok-counts.counts c.in_ok-counts.ensures.value in
+    let body = body-order bs _ n m w c.new-reader.ensures.bytes c.width_of-w.ensures.value c.in_ok-check_pairs.ensures.value in
+    let same = c.in_ok-check_pairs.ensures.bytes ∙ c.new-reader.ensures.bytes in
+    let none = sym (ap (λ l. first_fault (placed_fault l n w (2 * m)) n) same) ∙ (unless-ok _ tt tt c.in_ok-check_stations.ensures.value).0 in
+    let found = ap (end_fault bs) (sym c.place_of.ensures.value) ∙ unless-err _ tt _ c.in_err-check_end.ensures in
     rw (p.1, p.2) (record { value = decode-err bs _ (head ∙ body ∙ or_else-past _ _ none ∙ found); stands = tt; small = tt })
 
 pub returns : goal.returns
 returns c =
     let bs = c.args.sheet.now in
-    let n = c.in-ok-counts.counts.stations in
-    let m = c.in-ok-counts.counts.couplings in
-    let w = c.width-of-w.result in
-    let head = head_ok bs c.in-ok-counts.counts c.in-ok-counts.ensures.value in
-    let body = body-order bs _ n m w c.new-reader.ensures.bytes c.width-of-w.ensures.value c.in-ok-check-pairs.ensures.value in
-    let same = c.in-ok-check-pairs.ensures.bytes ∙ c.new-reader.ensures.bytes in
-    let none = sym (ap (λ l. first_fault (placed_fault l n w (2 * m)) n) same) ∙ (unless-ok _ tt tt c.in-ok-check-stations.ensures.value).0 in
-    let ended = ap (end_fault bs) (sym c.place-of.ensures.value) ∙ (unless-ok _ tt tt c.in-ok-check-end.ensures).0 in
-    let whole = decode-ok bs c.in-ok-counts.counts c.in-ok-counts.ensures.value (head ∙ body ∙ or_else-past _ _ none ∙ ended) in
-    record { value = whole.0; stands = whole.1; small = c.in-ok-counts.ensures.small }
+    let n = c.in_ok-counts.counts.stations in
+    let m = c.in_ok-counts.counts.couplings in
+    let w = c.width_of-w.result in
+    let head = head_ok bs c.in_ok-counts.counts c.in_ok-counts.ensures.value in
+    let body = body-order bs _ n m w c.new-reader.ensures.bytes c.width_of-w.ensures.value c.in_ok-check_pairs.ensures.value in
+    let same = c.in_ok-check_pairs.ensures.bytes ∙ c.new-reader.ensures.bytes in
+    let none = sym (ap (λ l. first_fault (placed_fault l n w (2 * m)) n) same) ∙ (unless-ok _ tt tt c.in_ok-check_stations.ensures.value).0 in
+    let ended = ap (end_fault bs) (sym c.place_of.ensures.value) ∙ (unless-ok _ tt tt c.in_ok-check_end.ensures).0 in
+    let whole = decode-ok bs c.in_ok-counts.counts c.in_ok-counts.ensures.value (head ∙ body ∙ or_else-past _ _ none ∙ ended) in
+    record { value = whole.0; stands = whole.1; small = c.in_ok-counts.ensures.small }

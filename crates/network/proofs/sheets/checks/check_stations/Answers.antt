@@ -21,18 +21,18 @@ loop-k-init c =
       omega (arith, c.requires.place),
       fault-none _ 0 (omega arith),
       omega arith,
-      (λ v h. c.no-marks-seen.ensures v ∙ sym (named_start _ v)),
+      (λ v h. c.no_marks-seen.ensures v ∙ sym (named_start _ v)),
       refl,
     )
 
-pub returns-in-err-station : goal.returns-in-err-station
+pub returns-in_err-station : goal.returns-in_err-station
 unfolding placed_fault
-returns-in-err-station c =
-    let p = err_from_is_err_and c.from-residual.result c.from-residual.ensures.1 in
+returns-in_err-station c =
+    let p = err_from_is_err_and c.from_residual.result c.from_residual.ensures.1 in
     let bs = c.args.reader.now.bytes.now in
     let k = c.loop-k.k in
     let f = placed_fault bs c.args.n c.args.w c.args.s in
-    let cut = station-cut bs _ _ c.args.w (c.args.s + k) _ c.loop-k.invariant.5 c.loop-k.invariant.0 c.in-err-station.ensures.value in
+    let cut = station-cut bs _ _ c.args.w (c.args.s + k) _ c.loop-k.invariant.5 c.loop-k.invariant.0 c.in_err-station.ensures.value in
     let here : f k ≡ refuse 1 (place_for c.args.w (c.args.s + k)) = grind (arith, nat_tests) in
     let first = fault-found f k c.args.n (at 1 (place_for c.args.w (c.args.s + k))) c.loop-k.invariant.2 here (omega arith) in
     rw (p.1, p.2, cut.1) (record { value = sym (ap (λ o. unless o tt) first); place = tt; bytes = search rules })
@@ -43,12 +43,12 @@ returns-then-station-n c =
     let bs = c.args.reader.now.bytes.now in
     let k = c.loop-k.k in
     let f = placed_fault bs c.args.n c.args.w c.args.s in
-    let got = station-took bs _ _ c.args.w (c.args.s + k) _ c.loop-k.invariant.5 c.loop-k.invariant.0 c.in-ok-station.ensures.value in
+    let got = station-took bs _ _ c.args.w (c.args.s + k) _ c.loop-k.invariant.5 c.loop-k.invariant.0 c.in_ok-station.ensures.value in
     let here : f k ≡ refuse 7 c.loop-k.reader.at =
     elim c.then-station-n.branch [
       | then-station-n-via-then-station-n w ↦ grind (arith, nat_tests)
       | then-station-n-via-else-station-n+then-seen-station w ↦
-          (let m = c.loop-k.invariant.4 c.in-ok-station.station (omega arith) in
+          (let m = c.loop-k.invariant.4 c.in_ok-station.station (omega arith) in
           let t = w.if-seen-station.true in
           grind (arith, nat_tests))
     ] in
@@ -62,9 +62,9 @@ loop-k-preserved c =
     let w = c.args.w in
     let s = c.args.s in
     let k = c.loop-k.k in
-    let v = c.in-ok-station.station in
+    let v = c.in_ok-station.station in
     let f = placed_fault bs c.args.n w s in
-    let was = c.in-ok-station.ensures in
+    let was = c.in_ok-station.ensures in
     let got = station-took bs _ _ w (s + k) v c.loop-k.invariant.5 c.loop-k.invariant.0 was.value in
     let m = c.loop-k.invariant.4 v (omega arith) in
     let here : f k ≡ None = grind (arith, nat_tests) in

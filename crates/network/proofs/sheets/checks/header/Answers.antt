@@ -4,9 +4,9 @@ use Rattle.network.specs.Decode.{header_fault}
 use Rattle.network.proofs.Fields.{header-fields, field_lt}
 use Rattle.network.proofs.sheets.checks.header.Goals as goal
 
-pub returns-in-default : goal.returns-in-default
+pub returns-in_default : goal.returns-in_default
 unfolding header_fault
-returns-in-default c = record { value = grind (arith, nat_tests); small = tt }
+returns-in_default c = record { value = grind (arith, nat_tests); small = tt }
 
 pub returns-then-word-ne1 : goal.returns-then-word-ne1
 unfolding header_fault

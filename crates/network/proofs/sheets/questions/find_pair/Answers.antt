@@ -19,7 +19,7 @@ returns-then-key-wanted c =
     let bs = c.args.sheet.now in
     let k = c.loop-low.low + (c.loop-low.high - c.loop-low.low) / 2 in
     sym (has_key bs c.args.n c.args.m k c.args.larger c.args.smaller (omega arith) (omega arith)
-    (ap (λ (x : ℕ). key_at bs x k) (sym c.width-of-w.ensures.value) ∙ sym c.key-at-key.ensures ∙ c.if-key-wanted.true))
+    (ap (λ (x : ℕ). key_at bs x k) (sym c.width_of-w.ensures.value) ∙ sym c.key_at-key.ensures ∙ c.if-key-wanted.true))
 
 pub loop-low-preserved-then-key-wanted-2 : goal.loop-low-preserved-then-key-wanted-2
 loop-low-preserved-then-key-wanted-2 c =
@@ -30,8 +30,8 @@ loop-low-preserved-then-key-wanted-2 c =
       omega arith,
       omega arith,
       (λ k h. ⊎_elim
-          (λ lt. omega (arith, key-less-at bs c.args.n c.args.m c.width-of-w.result c.width-of-w.ensures.value c.requires.0 k mid lt hm))
-          (λ ge. let e : k ≡ mid = omega arith in omega (arith, ap (key_at bs c.width-of-w.result) e))
+          (λ lt. omega (arith, key-less-at bs c.args.n c.args.m c.width_of-w.result c.width_of-w.ensures.value c.requires.0 k mid lt hm))
+          (λ ge. let e : k ≡ mid = omega arith in omega (arith, ap (key_at bs c.width_of-w.result) e))
           (cases_lt k mid)),
       c.loop-low.invariant.4,
     )
@@ -45,17 +45,17 @@ loop-low-preserved c =
       omega arith,
       c.loop-low.invariant.3,
       (λ k h hk. ⊎_elim
-          (λ lt. omega (arith, key-less-at bs c.args.n c.args.m c.width-of-w.result c.width-of-w.ensures.value c.requires.0 mid k lt hk))
+          (λ lt. omega (arith, key-less-at bs c.args.n c.args.m c.width_of-w.result c.width_of-w.ensures.value c.requires.0 mid k lt hk))
           (λ ge. let e : k ≡ mid = omega arith in
-          ⊎_elim (λ same. absurd (c.if-key-wanted.false same)) (λ other. omega (arith, ap (key_at bs c.width-of-w.result) e))
-          (cases_eq c.key-at-key.result (c.args.larger * 512 + c.args.smaller)))
+          ⊎_elim (λ same. absurd (c.if-key-wanted.false same)) (λ other. omega (arith, ap (key_at bs c.width_of-w.result) e))
+          (cases_eq c.key_at-key.result (c.args.larger * 512 + c.args.smaller)))
           (cases_lt mid k)),
     )
 
 pub returns : goal.returns
 returns c =
     let bs = c.args.sheet.now in
-    let e = c.width-of-w.ensures.value in
+    let e = c.width_of-w.ensures.value in
     sym (has-no-key bs c.args.n c.args.m c.args.larger c.args.smaller (λ k h q.
-    let is : key_at bs c.width-of-w.result k ≡ c.args.larger * 512 + c.args.smaller = ap (λ (x : ℕ). key_at bs x k) e ∙ q in
+    let is : key_at bs c.width_of-w.result k ≡ c.args.larger * 512 + c.args.smaller = ap (λ (x : ℕ). key_at bs x k) e ∙ q in
     ⊎_elim (λ lt. omega (arith, is, c.loop-low.invariant.3 k lt)) (λ ge. omega (arith, is, c.loop-low.invariant.4 k (omega arith) h)) (cases_lt k c.loop-low.low)))

@@ -6,17 +6,17 @@ use Rattle.network.specs.Parts.{key_at}
 use Rattle.network.proofs.Places.{place-next}
 use Rattle.network.proofs.sheets.questions.key_at.Goals as goal
 
-pub overflow-mul-result : goal.overflow-mul-result
-overflow-mul-result c =
+pub overflow_mul-result : goal.overflow_mul-result
+overflow_mul-result c =
     let le : c.args.w ≤ 9 = omega arith in
     let b : 2 ^ c.args.w ≤ 2 ^ 9 = pow_mono le in
-    omega (arith, field_lt c.args.sheet.now c.place-of-at.result c.args.w)
+    omega (arith, field_lt c.args.sheet.now c.place_of-at.result c.args.w)
 
-pub overflow-add-result : goal.overflow-add-result
-overflow-add-result c =
+pub overflow_add-result : goal.overflow_add-result
+overflow_add-result c =
     let le : c.args.w ≤ 9 = omega arith in
     let b : 2 ^ c.args.w ≤ 2 ^ 9 = pow_mono le in
-    omega (arith, field_lt c.args.sheet.now c.place-of-at.result c.args.w, field_lt c.args.sheet.now (c.place-of-at.result + c.args.w) c.args.w)
+    omega (arith, field_lt c.args.sheet.now c.place_of-at.result c.args.w, field_lt c.args.sheet.now (c.place_of-at.result + c.args.w) c.args.w)
 
 pub returns : goal.returns
 unfolding key_at value_at
@@ -24,6 +24,6 @@ returns c =
     let bs = c.args.sheet.now in
     let w = c.args.w in
     let k = c.args.k in
-    let at = c.place-of-at.ensures.value in
-    let next : c.place-of-at.result + w ≡ place_for w (2 * k + 1) = ap (λ (x : ℕ). x + w) at ∙ sym (place-next w (2 * k)) in
+    let at = c.place_of-at.ensures.value in
+    let next : c.place_of-at.result + w ≡ place_for w (2 * k + 1) = ap (λ (x : ℕ). x + w) at ∙ sym (place-next w (2 * k)) in
     omega (arith, ap (λ (x : ℕ). field bs x w) at, ap (λ (x : ℕ). field bs x w) next)

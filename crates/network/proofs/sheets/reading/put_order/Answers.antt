@@ -8,9 +8,9 @@ use Rattle.network.specs.Decode.{place_for, value_at, order_of}
 use Rattle.network.proofs.Places.{place-next}
 use Rattle.network.proofs.sheets.reading.put_order.Goals as goal
 
-pub overflow-cast-order : goal.overflow-cast-order
-overflow-cast-order c =
-    let w = c.width-of-w.result in
+pub overflow_cast-order : goal.overflow_cast-order
+overflow_cast-order c =
+    let w = c.width_of-w.result in
     let le : w ≤ 9 = omega arith in
     let b : 2 ^ w ≤ 2 ^ 9 = pow_mono le in
     omega (arith, field_lt c.args.sheet.now c.loop-k.at w)
@@ -19,15 +19,15 @@ pub loop-k-preserved : goal.loop-k-preserved
 unfolding value_at
 loop-k-preserved c =
     let bs = c.args.sheet.now in
-    let w = c.width-of-w.result in
+    let w = c.width_of-w.result in
     let s = 2 * c.args.m in
     let k = c.loop-k.k in
     let xs = c.loop-k.order in
     let old = c.args.order.now in
-    let v = c.field-of.result in
+    let v = c.field_of.result in
     let f : ℕ → ℕ = λ i. value_at bs w (s + i) in
     let lt : k < length xs = omega arith in
-    let is : v ≡ f k = c.field-of.ensures ∙ ap (λ (x : ℕ). field bs x w) c.loop-k.invariant.0 in
+    let is : v ≡ f k = c.field_of.ensures ∙ ap (λ (x : ℕ). field bs x w) c.loop-k.invariant.0 in
     let e : s + (k + 1) ≡ s + k + 1 = omega arith in
     let less : k < k + 1 = omega arith in (
       omega (arith, ap (place_for w) e, place-next w (s + k)),
@@ -44,5 +44,5 @@ returns c =
     let F : ℕ → ℕ → ℕ = λ w i. value_at c.args.sheet.now w (2 * c.args.m + i) in
     sym (take-append-drop c.loop-k.k c.loop-k.order)
     ∙ ap₂ (λ (x y : List ℕ). x ++ y) c.loop-k.invariant.2 c.loop-k.invariant.3
-    ∙ ap (λ (x : ℕ). map (F c.width-of-w.result) (range_with_len 0 x) ++ drop x c.args.order.now) e
-    ∙ ap (λ (w : ℕ). map (F w) (range_with_len 0 n) ++ drop n c.args.order.now) c.width-of-w.ensures.value
+    ∙ ap (λ (x : ℕ). map (F c.width_of-w.result) (range_with_len 0 x) ++ drop x c.args.order.now) e
+    ∙ ap (λ (w : ℕ). map (F w) (range_with_len 0 n) ++ drop n c.args.order.now) c.width_of-w.ensures.value

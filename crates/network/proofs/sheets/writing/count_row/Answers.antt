@@ -8,8 +8,8 @@ use Rattle.network.proofs.sheets.writing.count_row.Goals as goal
 pub loop-lower-init : goal.loop-lower-init
 loop-lower-init g c = sym (row-none (g.N.Network.meaning c.args.network.now).coupled c.args.station)
 
-pub overflow-add-couplings : goal.overflow-add-couplings
-overflow-add-couplings g c = omega (arith, c.loop-lower.invariant, row-short (g.N.Network.meaning c.args.network.now).coupled c.args.station c.loop-lower.lower)
+pub overflow_add-couplings : goal.overflow_add-couplings
+overflow_add-couplings g c = omega (arith, c.loop-lower.invariant, row-short (g.N.Network.meaning c.args.network.now).coupled c.args.station c.loop-lower.lower)
 
 pub loop-lower-preserved : goal.loop-lower-preserved
 loop-lower-preserved g c =

@@ -8,8 +8,8 @@ use Rattle.network.proofs.sheets.writing.put_pairs.Goals as goal
 pub loop-a-init : goal.loop-a-init
 loop-a-init g c = subst (Puts _ _) (sym (pairs-none c.args.w (g.N.Network.meaning c.args.network.now).coupled)) (puts_none c.args.writer.now)
 
-pub put-row-requires : goal.put-row-requires
-put-row-requires g c =
+pub put_row-requires : goal.put_row-requires
+put_row-requires g c =
     let net = g.N.Network.meaning c.args.network.now in
     let few = (g.N.Network.lawful c.args.network.now).few in
     let w = c.args.w in
@@ -26,7 +26,7 @@ loop-a-preserved g c =
     let C = (g.N.Network.meaning c.args.network.now).coupled in
     let w = c.args.w in
     let a = c.loop-a.a in
-    subst (Puts _ _) (sym (pairs-more w C a)) (puts-both (pair_bits w (pairs_to C a)) (pair_bits w (row_to C a a)) c.loop-a.invariant c.put-row.ensures)
+    subst (Puts _ _) (sym (pairs-more w C a)) (puts-both (pair_bits w (pairs_to C a)) (pair_bits w (row_to C a a)) c.loop-a.invariant c.put_row.ensures)
 
 pub returns : goal.returns
 returns g c =

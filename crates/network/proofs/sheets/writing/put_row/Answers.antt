@@ -9,8 +9,8 @@ pub loop-b-init : goal.loop-b-init
 loop-b-init g c =
     subst (Puts _ _) (sym (row-none c.args.w (g.N.Network.meaning c.args.network.now).coupled c.args.a)) (puts_none c.args.writer.now)
 
-pub put-pair-requires : goal.put-pair-requires
-put-pair-requires g c =
+pub put_pair-requires : goal.put_pair-requires
+put_pair-requires g c =
     let C = (g.N.Network.meaning c.args.network.now).coupled in
     let fits = row_room c.args.w C c.args.a c.loop-b.b (omega arith) (sym c.coupled.ensures ∙ c.if-coupled.true) in
     let one = length-pair_bits c.args.w ((c.args.a, c.loop-b.b) ∷ []) in
@@ -30,7 +30,7 @@ loop-b-preserved g c =
       | then-coupled v ↦
           subst (λ new. Puts c.args.writer.now new (pair_bits w (row_to C a (b + 1)))) (sym v.writer-is)
           (subst (Puts _ _) (sym (row-yes w C a b (sym c.coupled.ensures ∙ v.if-coupled.true)))
-          (puts-both (pair_bits w (row_to C a b)) (pair_bits w ((a, b) ∷ [])) c.loop-b.invariant v.put-pair.ensures))
+          (puts-both (pair_bits w (row_to C a b)) (pair_bits w ((a, b) ∷ [])) c.loop-b.invariant v.put_pair.ensures))
       | else-coupled v ↦
           subst (λ new. Puts c.args.writer.now new (pair_bits w (row_to C a (b + 1)))) (sym v.writer-is)
           (subst (Puts _ _) (sym (row-no w C a b (sym c.coupled.ensures ∙ v.if-coupled.false))) c.loop-b.invariant)

@@ -8,26 +8,26 @@ use Rattle.network.specs.Orders.{order_fault}
 use Rattle.network.specs.Refusals.{unless}
 use Rattle.network.proofs.sheets.writing.write_sheet.Given as given
 use Rattle.network.proofs.sheets.writing.write_sheet.Goals as goal
-use Rattle.network.proofs.sheets.writing.write_sheet.Goals.{After-place-of}
+use Rattle.network.proofs.sheets.writing.write_sheet.Goals.{After-place_of}
 
 -- the list is an order
-ordered : (g : given.Over) (c : After-place-of g) → order_fault c.args.order.now (g.N.Network.meaning c.args.network.now).size ≡ None
+ordered : (g : given.Over) (c : After-place_of g) → order_fault c.args.order.now (g.N.Network.meaning c.args.network.now).size ≡ None
 ordered g c =
-    ap (order_fault c.args.order.now) (sym c.size-n.ensures) ∙ (unless-ok (order_fault c.args.order.now c.size-n.result) tt tt c.in-ok-check-order.ensures).0
+    ap (order_fault c.args.order.now) (sym c.size-n.ensures) ∙ (unless-ok (order_fault c.args.order.now c.size-n.result) tt tt c.in_ok-check_order.ensures).0
 
 -- the length that is asked of the bytes is the sheet's
-long : (g : given.Over) (c : After-place-of g) → (c.place-of.result + 7) / 8 ≡ length (bytes_of (g.N.Network.meaning c.args.network.now) c.args.order.now)
+long : (g : given.Over) (c : After-place_of g) → (c.place_of.result + 7) / 8 ≡ length (bytes_of (g.N.Network.meaning c.args.network.now) c.args.order.now)
 long g c =
     need-is (g.N.Network.meaning c.args.network.now) c.args.order.now c.size-n.result _ _ _
-    c.size-n.ensures (ordered g c) c.count-couplings-couplings.ensures.value c.width-of-w.ensures.value c.place-of.ensures.value
+    c.size-n.ensures (ordered g c) c.count_couplings-couplings.ensures.value c.width_of-w.ensures.value c.place_of.ensures.value
 
-pub returns-in-err-check-order : goal.returns-in-err-check-order
-returns-in-err-check-order g c =
-    let p = err_from_is_err_and c.from-residual.result c.from-residual.ensures.1 in
+pub returns-in_err-check_order : goal.returns-in_err-check_order
+returns-in_err-check_order g c =
+    let p = err_from_is_err_and c.from_residual.result c.from_residual.ensures.1 in
     let net = g.N.Network.meaning c.args.network.now in
     let order = c.args.order.now in
     let out = c.args.out.now in
-    let found = write-unordered net order (length out) c.size-n.result _ c.size-n.ensures (unless-err _ _ _ c.in-err-check-order.ensures) in
+    let found = write-unordered net order (length out) c.size-n.result _ c.size-n.ensures (unless-err _ _ _ c.in_err-check_order.ensures) in
     rw (p.1, p.2) (record {
       answer = sym (ap (λ o. unless o (length (bytes_of net order))) found);
       out = sym (ap (λ o. buffer_after o (bytes_of net order) out) found);
@@ -35,7 +35,7 @@ returns-in-err-check-order g c =
 
 pub returns-then-out-need : goal.returns-then-out-need
 returns-then-out-need g c =
-    let here = (goal.at.returns-then-out-need g c).After-place-of in
+    let here = (goal.at.returns-then-out-need g c).After-place_of in
     let net = g.N.Network.meaning c.args.network.now in
     let order = c.args.order.now in
     let out = c.args.out.now in
@@ -45,23 +45,23 @@ returns-then-out-need g c =
       out = sym (ap (λ o. buffer_after o (bytes_of net order) out) found);
     }
 
-pub put-sheet-requires : goal.put-sheet-requires
-put-sheet-requires g c =
-    let here = (goal.at.put-sheet-requires g c).After-place-of in
+pub put_sheet-requires : goal.put_sheet-requires
+put_sheet-requires g c =
+    let here = (goal.at.put_sheet-requires g c).After-place_of in
     record {
       order = ordered g here;
-      count = c.count-couplings-couplings.ensures.value;
+      count = c.count_couplings-couplings.ensures.value;
       long = length-take-le _ c.args.out.now (omega arith) ∙ long g here;
     }
 
 pub returns : goal.returns
 returns g c =
-    let here = (goal.at.returns g c).After-place-of in
+    let here = (goal.at.returns g c).After-place_of in
     let net = g.N.Network.meaning c.args.network.now in
     let order = c.args.order.now in
     let out = c.args.out.now in
     let found = write-fine net order (length out) _ (ordered g here) (long g here) (omega arith) in
     record {
       answer = ap (λ (x : ℕ). Ok x) (long g here) ∙ sym (ap (λ o. unless o (length (bytes_of net order))) found);
-      out = ap₂ (λ (x : List ℕ) (y : ℕ). x ++ drop y out) c.put-sheet.ensures (long g here) ∙ sym (ap (λ o. buffer_after o (bytes_of net order) out) found);
+      out = ap₂ (λ (x : List ℕ) (y : ℕ). x ++ drop y out) c.put_sheet.ensures (long g here) ∙ sym (ap (λ o. buffer_after o (bytes_of net order) out) found);
     }
