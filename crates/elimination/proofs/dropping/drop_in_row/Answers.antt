@@ -5,7 +5,7 @@ use Rattle.elimination.specs.View.{graph}
 use Rattle.elimination.proofs.Rows.{rows-below}
 use Rattle.elimination.proofs.Drops.{looked-end, row_drop, row_keep}
 use Rattle.elimination.proofs.dropping.drop_in_row.Goals as goal
-use Rattle.elimination.proofs.dropping.drop_in_row.Goals.{then-not-contains+then-is-spare, else-not-contains, else-not-contains-via-then-not-contains+else-is-spare, else-not-contains-via-else-not-contains}
+use Rattle.elimination.proofs.dropping.drop_in_row.Goals.{then-not-contains+then-is_spare, else-not-contains, else-not-contains-via-then-not-contains+else-is_spare, else-not-contains-via-else-not-contains}
 
 pub loop-v-init : goal.loop-v-init
 loop-v-init c =
@@ -20,21 +20,21 @@ loop-v-preserved c =
     let u = c.args.u in
     let v = c.in-Some.v in
     elim c.if-not-contains.branch [
-      | then-not-contains+then-is-spare w ↦
+      | then-not-contains+then-is_spare w ↦
           row_drop C (graph c.args.pairs.now) c.args.again.now u c.loop-v.from v G (graph c.if-not-contains.pairs) c.loop-v.again c.if-not-contains.again c.loop-v.dropped c.if-not-contains.dropped
           c.args.couplings.now.mirrored c.loop-v.pairs.mirrored (rows-below c.loop-v.pairs.words) c.requires.one first.1 c.loop-v.invariant
           first.2
           (sym c.contains.ensures ∙ w.if-not-contains.true)
-          (sym w.is-spare.ensures ∙ w.if-is-spare.true)
-          (ap graph w.pairs-is ∙ w.drop-pair.ensures.pairs)
-          (w.again-is ∙ w.drop-pair.ensures.marks)
+          (sym w.is_spare.ensures ∙ w.if-is_spare.true)
+          (ap graph w.pairs-is ∙ w.drop_pair.ensures.pairs)
+          (w.again-is ∙ w.drop_pair.ensures.marks)
           w.dropped-is
       | else-not-contains w ↦
           row_keep C (graph c.args.pairs.now) c.args.again.now u c.loop-v.from v G (graph c.if-not-contains.pairs) c.loop-v.again c.if-not-contains.again c.loop-v.dropped c.if-not-contains.dropped
           c.args.couplings.now.mirrored c.loop-v.pairs.mirrored (rows-below c.loop-v.pairs.words) c.requires.one first.1 c.loop-v.invariant
           first.3
           (λ k s. elim w.else-not-contains.branch [
-            | else-not-contains-via-then-not-contains+else-is-spare x ↦ both_ways x.is-spare.result x.if-is-spare.false (x.is-spare.ensures ∙ s)
+            | else-not-contains-via-then-not-contains+else-is_spare x ↦ both_ways x.is_spare.result x.if-is_spare.false (x.is_spare.ensures ∙ s)
             | else-not-contains-via-else-not-contains x ↦ both_ways (C u v) k (sym c.contains.ensures ∙ x.if-not-contains.false)
           ])
           (ap graph w.pairs-is)
@@ -48,7 +48,7 @@ returns c =
     record {
       ready = i.0;
       within = i.1;
-      looked = looked-end (graph c.args.couplings.now) (graph c.loop-v.pairs) c.args.u c.loop-v.again c.loop-v.from (rows-below c.loop-v.pairs.words) c.loop-v.pairs.mirrored c.in-default.ensures.first i.2;
+      looked = looked-end (graph c.args.couplings.now) (graph c.loop-v.pairs) c.args.u c.loop-v.again c.loop-v.from (rows-below c.loop-v.pairs.words) c.loop-v.pairs.mirrored c.in_default.ensures.first i.2;
       some = i.3;
       none = i.4;
     }

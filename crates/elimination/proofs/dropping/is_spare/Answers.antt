@@ -55,6 +55,6 @@ returns c =
     let G : Graph = graph c.args.pairs.now in
     let u = c.args.u in
     let v = c.args.v in
-    let gap = c.in-default.ensures.first in
+    let gap = c.in_default.ensures.first in
     sym (spare-to 512 G u v (λ x ux vx. ⊎_elim (λ (l : x < c.loop-a.from). c.loop-a.invariant.0 x l ux vx)
     (λ (g : c.loop-a.from ≤ x). absurd (both_ways (G u x) (gap x g (rows-below c.args.pairs.now.words u x ux).1) ux)) (cases_lt x c.loop-a.from)))

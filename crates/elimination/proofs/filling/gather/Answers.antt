@@ -15,7 +15,7 @@ pub loop-k-preserved : goal.loop-k-preserved
 loop-k-preserved c =
     let l = listed-length c.args.order.now in
     leaving-step c.args.order.now.size (graph c.args.pairs) (listed c.args.order.now) c.loop-k.k _ _ _ _ c.station-v.result (omega arith)
-    (sym c.station-v.ensures.value) c.leave.ensures c.keep-pairs.ensures c.loop-k.invariant
+    (sym c.station-v.ensures.value) c.leave.ensures c.keep_pairs.ensures c.loop-k.invariant
 
 pub returns : goal.returns
 returns c =

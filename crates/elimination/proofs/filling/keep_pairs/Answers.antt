@@ -15,4 +15,4 @@ loop-a-preserved c =
 pub returns : goal.returns
 returns c =
     keeping_all (graph c.args.gathered.now) (graph c.args.work.now) c.args.v (graph c.loop-a.gathered) c.loop-a.from c.args.work.now.mirrored (rows-below c.args.work.now.words)
-    c.loop-a.invariant.0 c.in-default.ensures.first
+    c.loop-a.invariant.0 c.in_default.ensures.first

@@ -5,4 +5,4 @@ use Rattle.elimination.proofs.Leaving.{left}
 use Rattle.elimination.proofs.filling.leave.Goals as goal
 
 pub returns : goal.returns
-returns c = c.isolate.ensures ∙ ap (λ (G : Graph). apart G c.args.v) c.join-neighbours.ensures ∙ left (graph c.args.work.now) c.args.v
+returns c = c.isolate.ensures ∙ ap (λ (G : Graph). apart G c.args.v) c.join_neighbours.ensures ∙ left (graph c.args.work.now) c.args.v

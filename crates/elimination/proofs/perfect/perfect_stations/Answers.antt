@@ -8,21 +8,21 @@ use Rattle.elimination.proofs.perfect.perfect_stations.Goals as goal
 
 pub loop-k-init : goal.loop-k-init
 loop-k-init c =
-    let l : length c.all-marked-left.result ≡ 512 = search rules in
-    ((c.requires.perfect.0, peel-start c.args.n c.args.last (graph c.args.pairs.now) c.all-marked-left.result _ c.requires.few c.requires.known c.requires.simple c.requires.perfect c.all-marked-left.ensures l refl), refl)
+    let l : length c.all_marked-left.result ≡ 512 = search rules in
+    ((c.requires.perfect.0, peel-start c.args.n c.args.last (graph c.args.pairs.now) c.all_marked-left.result _ c.requires.few c.requires.known c.requires.simple c.requires.perfect c.all_marked-left.ensures l refl), refl)
 
-pub simplicial-station-v-requires : goal.simplicial-station-v-requires
-simplicial-station-v-requires c =
+pub simplicial_station-v-requires : goal.simplicial_station-v-requires
+simplicial_station-v-requires c =
     let t = peel-some _ _ _ _ _ _ _ _ c.requires.simple c.loop-k.invariant.0.1 (omega arith) in
     record { few = c.requires.few; one = (t.0, t.1, t.2, spare-to 512 (graph c.loop-k.pairs) t.0 t.0 t.3) }
 
 pub loop-k-preserved : goal.loop-k-preserved
 loop-k-preserved c =
     let p = c.loop-k.invariant.0.1 in
-    let v = c.simplicial-station-v.result in
+    let v = c.simplicial_station-v.result in
     let room : c.loop-k.k < length c.loop-k.stations = omega (arith, c.loop-k.invariant.1) in (
-      peel-step _ _ _ _ _ _ _ _ c.requires.simple p v _ _ _ c.simplicial-station-v.ensures.below c.requires.few c.simplicial-station-v.ensures.left
-          (spare-from 512 (graph c.loop-k.pairs) v v (rows-below c.loop-k.pairs.words) c.simplicial-station-v.ensures.simplicial)
+      peel-step _ _ _ _ _ _ _ _ c.requires.simple p v _ _ _ c.simplicial_station-v.ensures.below c.requires.few c.simplicial_station-v.ensures.left
+          (spare-from 512 (graph c.loop-k.pairs) v v (rows-below c.loop-k.pairs.words) c.simplicial_station-v.ensures.simplicial)
           c.isolate.ensures refl (take_more_set c.loop-k.stations c.loop-k.k v room),
       length-set _ _ _ ∙ c.loop-k.invariant.1,
     )

@@ -9,14 +9,14 @@ pub loop-k-init : goal.loop-k-init
 unfolding count_to
 loop-k-init c = refl
 
-pub overflow-add-total-in-loop-k : goal.overflow-add-total-in-loop-k
-overflow-add-total-in-loop-k c =
+pub overflow_add-total-in-loop-k : goal.overflow_add-total-in-loop-k
+overflow_add-total-in-loop-k c =
     let hw : get_or c.args.words.now (c.args.a * 8 + c.loop-k.k) 0 < 2 ^ 64 = search rules in
     omega (
       arith,
       count_to-le (between (rows c.args.words.now) c.args.a c.args.low c.args.high) (64 * (c.loop-k.k + 1)),
       count-more c.args.words.now c.args.a c.args.low c.args.high c.loop-k.k c.below.result c.below-in-loop-k.result
-          c.requires (omega arith) hw c.below-in-loop-k.type-inv c.below.ensures c.below-in-loop-k.ensures,
+          c.requires (omega arith) hw c.below-in-loop-k.type_inv c.below.ensures c.below-in-loop-k.ensures,
     )
 
 pub loop-k-preserved : goal.loop-k-preserved
@@ -25,7 +25,7 @@ loop-k-preserved c =
     omega (
       arith,
       count-more c.args.words.now c.args.a c.args.low c.args.high c.loop-k.k c.below.result c.below-in-loop-k.result
-          c.requires (omega arith) hw c.below-in-loop-k.type-inv c.below.ensures c.below-in-loop-k.ensures,
+          c.requires (omega arith) hw c.below-in-loop-k.type_inv c.below.ensures c.below-in-loop-k.ensures,
     )
 
 pub returns : goal.returns

@@ -7,13 +7,13 @@ use Rattle.elimination.proofs.words.count_rows.Goals as goal
 pub loop-a-init : goal.loop-a-init
 loop-a-init c = sym (pairs-none (rows c.args.words.now))
 
-pub overflow-add-total : goal.overflow-add-total
-overflow-add-total c = omega (arith, pairs-le c.loop-a.a (rows c.args.words.now) (omega arith), c.count-between-total.ensures.small)
+pub overflow_add-total : goal.overflow_add-total
+overflow_add-total c = omega (arith, pairs-le c.loop-a.a (rows c.args.words.now) (omega arith), c.count_between-total.ensures.small)
 
 pub loop-a-preserved : goal.loop-a-preserved
 loop-a-preserved c =
-    ap (λ (m : ℕ). m + c.count-between-total.result) c.loop-a.invariant
-    ∙ ap (λ (m : ℕ). pairs_below c.loop-a.a (rows c.args.words.now) + m) (c.count-between-total.ensures.value ∙ count-lower (rows c.args.words.now) c.loop-a.a (omega arith))
+    ap (λ (m : ℕ). m + c.count_between-total.result) c.loop-a.invariant
+    ∙ ap (λ (m : ℕ). pairs_below c.loop-a.a (rows c.args.words.now) + m) (c.count_between-total.ensures.value ∙ count-lower (rows c.args.words.now) c.loop-a.a (omega arith))
     ∙ sym (pairs-more c.loop-a.a (rows c.args.words.now))
 
 pub returns : goal.returns

@@ -6,8 +6,8 @@ use Rattle.elimination.proofs.pair_set.PairSet.empty.Goals as goal
 none : (words : List ℕ) → words ≡ replicate 4096 0 → (a b : ℕ) → rows words a b ≡ false
 none words e a b = ap (λ (ws : List ℕ). rows ws a b) e ∙ rows_empty a b
 
-pub invariant-of-result : goal.invariant-of-result
-invariant-of-result c = ((λ a b. none c.no-pairs-words.result c.no-pairs-words.ensures a b ∙ sym (none c.no-pairs-words.result c.no-pairs-words.ensures b a)), tt)
+pub invariant_of-result : goal.invariant_of-result
+invariant_of-result c = record { mirrored = λ a b. none c.no_pairs-words.result c.no_pairs-words.ensures a b ∙ sym (none c.no_pairs-words.result c.no_pairs-words.ensures b a) }
 
 pub returns : goal.returns
-returns c = none c.no-pairs-words.result c.no-pairs-words.ensures
+returns c = none c.no_pairs-words.result c.no_pairs-words.ensures

@@ -20,5 +20,5 @@ loop-a-preserved c =
 pub returns : goal.returns
 returns c =
     let G : Graph = graph c.args.self.now in
-    cut-gap G (graph c.loop-a.self) c.args.v c.loop-a.from 512 c.loop-a.self.mirrored c.loop-a.invariant.0 c.loop-a.invariant.1 c.in-default.ensures.first
+    cut-gap G (graph c.loop-a.self) c.args.v c.loop-a.from 512 c.loop-a.self.mirrored c.loop-a.invariant.0 c.loop-a.invariant.1 c.in_default.ensures.first
     ∙ cut_all G c.args.v 512 (rows-below c.args.self.now.words)
