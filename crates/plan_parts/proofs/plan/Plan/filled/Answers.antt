@@ -32,8 +32,8 @@ returns c =
     let C = graph p.couplings in
     let xs = listed p.order in
     record {
-      value = c.pair_filled.ensures;
-      same = λ e. made_as c.pair_filled.result (filled C xs a b) false (ap (λ (x : ℕ). filled C xs a x) (sym e) ∙ filled-irreflexive C xs p.irreflexive a)
-          (answered p.order.size a b (filled C xs a b) c.pair_filled.result c.pair_filled.ensures);
+      value = c.is_filled.ensures;
+      same = λ e. made_as c.is_filled.result (filled C xs a b) false (ap (λ (x : ℕ). filled C xs a x) (sym e) ∙ filled-irreflexive C xs p.irreflexive a)
+          (answered p.order.size a b (filled C xs a b) c.is_filled.result c.is_filled.ensures);
       history = asks (view p) (pair_filled a b);
     }

@@ -16,7 +16,7 @@ settled-requires g c =
     let e : c.rising.result.size ≡ net.size = c.rising.ensures.size ∙ c.size.ensures in
     record {
       some = omega (arith, e, l.some);
-      simple = opened-simple net l c.rising.result.size (graph c.couplings-of-couplings.result) e c.couplings-of-couplings.ensures;
+      simple = opened-simple net l c.rising.result.size (graph c.couplings_of-couplings.result) e c.couplings_of-couplings.ensures;
     }
 
 pub returns : goal.returns
@@ -25,6 +25,6 @@ returns g c =
     let l = g.N.Network.lawful c.args.network.now in
     let r = c.rising.result in
     let P : _ → Type 0 = λ n. listed r ≡ up_to n in
-    let e = c.settled.ensures ∙ opened-state net r.size (graph c.couplings-of-couplings.result) (listed r)
-    (c.rising.ensures.size ∙ c.size.ensures) c.couplings-of-couplings.ensures (subst P (sym c.rising.ensures.size) c.rising.ensures.list) in
+    let e = c.settled.ensures ∙ opened-state net r.size (graph c.couplings_of-couplings.result) (listed r)
+    (c.rising.ensures.size ∙ c.size.ensures) c.couplings_of-couplings.ensures (subst P (sym c.rising.ensures.size) c.rising.ensures.list) in
     record { state = e; history = subst (λ (s : PlanState). PlanHistory [] (up_to net.size) false s) (sym e) (opened net l) }

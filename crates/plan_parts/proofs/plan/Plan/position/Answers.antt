@@ -4,4 +4,4 @@ use Rattle.plan_parts.proofs.Histories.{asks}
 use Rattle.plan_parts.proofs.plan.Plan.position.Goals as goal
 
 pub returns : goal.returns
-returns c = record { value = c.position-in.ensures.value; history = asks (view c.args.self.now) (position_of_station c.args.station) }
+returns c = record { value = c.position_in.ensures.value; history = asks (view c.args.self.now) (position_of_station c.args.station) }

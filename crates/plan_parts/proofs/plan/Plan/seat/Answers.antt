@@ -17,9 +17,9 @@ returns-then-station-size c =
 pub returns : goal.returns
 returns c =
     let p = c.args.self.now in
-    let new = c.ending-in-order.result in
+    let new = c.ending_in-order.result in
     let h : c.args.station < p.order.size = search rules in
     let k : Seats (view p).net c.args.station (view p).order (listed new) =
-    record { order = order-sized new p.order.size c.ending-in-order.ensures.size; within = c.ending-in-order.ensures.within; last = c.ending-in-order.ensures.ends } in
+    record { order = order-sized new p.order.size c.ending_in-order.ensures.size; within = c.ending_in-order.ensures.within; last = c.ending_in-order.ensures.ends } in
     let t = seat-left (view p) (view c.settle.new.self) c.args.station h (listed new) k c.settle.ensures in
     record { value = search rules; state = t.0; seats = λ _. t.1; history = t.2 }

@@ -14,7 +14,7 @@ pub loop-a-preserved : goal.loop-a-preserved
 loop-a-preserved g c =
     let network = c.args.network.now in
     let net = g.N.Network.meaning network in
-    c.take-row.ensures
+    c.take_row.ensures
     ∙ ap (λ (G : Graph). union G (pairs_below net.coupled c.loop-a.a c.loop-a.a)) c.loop-a.invariant
     ∙ among-more net (g.N.Network.lawful network) c.loop-a.a
 

@@ -11,6 +11,6 @@ pub loop-b-preserved : goal.loop-b-preserved
 loop-b-preserved g c =
     let K : Graph = (g.N.Network.meaning c.args.network.now).coupled in
     let wanted : Bool = c.coupled-wanted.result in
-    c.insert-if.ensures
+    c.insert_if.ensures
     ∙ ap (λ (G : Graph). cond wanted (including G c.args.a c.loop-b.b) G) c.loop-b.invariant
     ∙ below_more (graph c.args.set.now) K c.args.a c.loop-b.b wanted (g.N.Network.lawful c.args.network.now).symmetric c.coupled-wanted.ensures

@@ -36,6 +36,6 @@ returns c =
     let i = c.args.i in
     let j = c.args.j in
     let first = r.begins j (omega (arith, c.size.ensures)) in
-    let number = c.count-between.ensures.value in
+    let number = c.count_between.ensures.value in
     ap (λ (p : ℕ). Some p) (omega (arith, first, number))
     ∙ sym (cell-later (filled_in r) (size_in r) i j r.symmetric (omega (arith, c.if-j-i-2.false)) (omega (arith, c.size.ensures)) r.order.few (sym c.contains.ensures ∙ c.if-not-contains.false))

@@ -22,8 +22,8 @@ returns c =
     let a = c.args.a in
     let b = c.args.b in
     let F = filled_in r in
-    let i = known-ok n a c.in-ok-i.field-0 (position_of (order_in r) a) c.in-ok-i.ensures.value in
-    let j = known-ok n b c.in-ok-j.field-0 (position_of (order_in r) b) c.in-ok-j.ensures.value in
+    let i = known-ok n a c.in_ok-i.field-0 (position_of (order_in r) a) c.in_ok-i.ensures.value in
+    let j = known-ok n b c.in_ok-j.field-0 (position_of (order_in r) b) c.in_ok-j.ensures.value in
     let answer : Result (Option ℕ) Fault = Ok (place_for F n (position_of (order_in r) a) (position_of (order_in r) b)) in
     let inner : Result (Option ℕ) Fault = known n b answer in
     ap (λ (o : Option ℕ). Ok o)

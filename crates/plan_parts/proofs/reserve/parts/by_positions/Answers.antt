@@ -9,7 +9,7 @@ pub loop-i-init : goal.loop-i-init
 loop-i-init c = rows_none (by_position (graph c.args.pairs.now) (listed c.args.order.now)) _ c.empty-placed.ensures
 
 pub loop-i-preserved : goal.loop-i-preserved
-loop-i-preserved c = c.place-pairs.ensures ∙ rows_more (by_position (graph c.args.pairs.now) (listed c.args.order.now)) _ c.loop-i.i c.loop-i.invariant
+loop-i-preserved c = c.place_pairs.ensures ∙ rows_more (by_position (graph c.args.pairs.now) (listed c.args.order.now)) _ c.loop-i.i c.loop-i.invariant
 
 pub returns : goal.returns
 returns c =

@@ -36,7 +36,7 @@ returns c =
     let l = listed-length order in
     let a : ℕ = get_or xs c.args.i 0 in
     let gap : (s : ℕ) → c.loop-b.from ≤ s → s < 512 → G a s ≡ false =
-    subst (λ (a : ℕ). (s : ℕ) → c.loop-b.from ≤ s → s < 512 → G a s ≡ false) c.station-a.ensures.value c.in-default.ensures.first in
+    subst (λ (a : ℕ). (s : ℕ) → c.loop-b.from ≤ s → s < 512 → G a s ≡ false) c.station-a.ensures.value c.in_default.ensures.first in
     let none : (s : ℕ) → c.loop-b.from ≤ s → G a s ≡ false =
     λ s h. ⊎_elim (λ (t : G a s ≡ true). gap s h (rows-below c.args.pairs.now.words a s t).1) (λ (t : G a s ≡ false). t) (cases_Bool (G a s)) in
     placed-all G xs (order-of order).once c.args.i (omega arith) (graph c.args.placed.now) (graph c.loop-b.placed) c.loop-b.from c.requires.simple.symmetric c.loop-b.invariant.0 none
