@@ -23,4 +23,4 @@ loop-j-preserved g c =
 
 pub returns : goal.returns
 returns g c =
-    column-all _ _ _ _ _ _ _ _ _ (λ b low high. c.in-default.ensures.first b low (omega (arith, high, c.args.reserve.now.order.few))) c.loop-j.invariant.0
+    column-all _ _ _ _ _ _ _ _ _ (λ b low high. c.in_default.ensures.first b low (omega (arith, high, c.args.reserve.now.order.few))) c.loop-j.invariant.0

@@ -9,6 +9,6 @@ returns-else-marks-p-eq0 g c =
     let e = ne_eqb _ _ c.if-marks-p-eq0.false in
     let n = slice_get_read _ _ _ _ refl c.requires.entry c.index-entries-p.is in
     record {
-      entries = simp (e, n) (ap (λ v. set c.args.entries.now c.args.p v) c.more-of.ensures);
+      entries = simp (e, n) (ap (λ v. set c.args.entries.now c.args.p v) c.more_of.ensures);
       marks = simp e (sym (set-get_or c.args.marks.now c.args.p 0));
     }

@@ -11,7 +11,7 @@ store-requires g c =
     let R = c.args.self.now.reserve.now in
     let es = c.args.entries.now in
     let ms = c.args.marks.now in
-    let k = checked (filled_in R) (size_in R) (order_in R) (length es) (length ms) c.args.a c.args.b c.in-ok-place.place c.in-ok-place.ensures in
+    let k = checked (filled_in R) (size_in R) (order_in R) (length es) (length ms) c.args.a c.args.b c.in_ok-place.place c.in_ok-place.ensures in
     let within = place-within (filled_in R) (size_in R) (order_in R) c.args.a c.args.b es ms (Some c.in-Some.p) (sym c.in-Some.is ∙ k.place) (k.entries_long, k.marks_long) in
     record { entry = within.0; mark = within.1 }
 
@@ -25,7 +25,7 @@ returns g c =
     let ms = c.args.marks.now in
     let a = c.args.a in
     let b = c.args.b in
-    let k = checked F n (order_in R) (length es) (length ms) a b c.in-ok-place.place c.in-ok-place.ensures in
+    let k = checked F n (order_in R) (length es) (length ms) a b c.in_ok-place.place c.in_ok-place.ensures in
     let room : Room F n es ms = (k.entries_long, k.marks_long) in
     let here : place_in R a b ≡ Some c.in-Some.p = sym k.place ∙ c.in-Some.is in
     record {

@@ -18,13 +18,13 @@ returns g c =
     let k = c.args.self.now.made in
     let es = c.args.entries.now in
     let ms = c.args.marks.now in
-    let long = c.in-ok-check-room.ensures.room in
+    let long = c.in_ok-check_room.ensures.room in
     let room : Room F n es ms = (omega (arith, long.0), omega (arith, long.1)) in
-    let open-end : eqb k n ≡ false = sym c.all-made.ensures ∙ c.if-all-made.false in
+    let open-end : eqb k n ≡ false = sym c.all_made.ensures ∙ c.if-all_made.false in
     let left : k ≢ n = eqb-false k n open-end in
     let lt : k < n = omega (arith, left, c.args.self.now.some) in
-    let usable : pivotal K (square_of F n es ms k k) ≡ true = pivot-made K k (square_of F n es ms k k) _ c.in-ok-make-pivot.ensures.value in
-    let pivoted = c.in-ok-make-pivot.ensures.tables in
+    let usable : pivotal K (square_of F n es ms k k) ≡ true = pivot-made K k (square_of F n es ms k k) _ c.in_ok-make_pivot.ensures.value in
+    let pivoted = c.in_ok-make_pivot.ensures.tables in
     record {
       reserve = c.count.ensures.reserve;
       value = sym (roomy-ok (places F n) (length es) (length ms) _ room.0 room.1 ∙ simp (open-end, usable));
@@ -34,9 +34,9 @@ returns g c =
       history = λ sq put h agrees. rw c.count.ensures.made (step-goes K F n (order_in R) R.closed es ms room _ _ sq put k lt usable pivoted h agrees);
     }
 
-pub returns-in-err-make-pivot : goal.returns-in-err-make-pivot
-returns-in-err-make-pivot g c =
+pub returns-in_err-make_pivot : goal.returns-in_err-make_pivot
+returns-in_err-make_pivot g c =
     let k = c.args.self.now.made in
     let n = size_in c.args.self.now.reserve.now in
-    let left : k ≢ n = eqb-false k n (sym c.all-made.ensures ∙ c.if-all-made.false) in
+    let left : k ≢ n = eqb-false k n (sym c.all_made.ensures ∙ c.if-all_made.false) in
     search rules

@@ -13,10 +13,10 @@ returns g c =
     let R = c.args.reserve.now in
     let es = c.args.entries.now in
     let ms = c.args.marks.now in
-    let long = c.in-default.ensures.room in
+    let long = c.in_default.ensures.room in
     let room : Room (filled_in R) (size_in R) es ms = (omega (arith, long.0), omega (arith, long.1)) in
     record {
       value = sym (roomy-ok _ _ _ _ room.0 room.1);
-      marks = c.clear-places.ensures;
-      history = (started, subst (λ (xs : List ℕ). Agrees (filled_in R) (size_in R) es xs empty) (sym c.clear-places.ensures) (zeroed-agrees (filled_in R) (size_in R) es ms));
+      marks = c.clear_places.ensures;
+      history = (started, subst (λ (xs : List ℕ). Agrees (filled_in R) (size_in R) es xs empty) (sym c.clear_places.ensures) (zeroed-agrees (filled_in R) (size_in R) es ms));
     }
