@@ -11,22 +11,22 @@ use Rattle.logger.specs.Reports.{inspected, again_after, report_of}
 use Rattle.logger.proofs.Rewriting.{read-refused, read-accepted, read_whole, front, outcome-is, buffer-is}
 use Rattle.logger.proofs.report.inspect.Goals as goal
 
-pub returns-in-err-read-sheet : goal.returns-in-err-read-sheet
-returns-in-err-read-sheet c =
-    let p = err_from_is_err_and c.from-residual.result c.from-residual.ensures.1 in
+pub returns-in_err-read_sheet : goal.returns-in_err-read_sheet
+returns-in_err-read_sheet c =
+    let p = err_from_is_err_and c.from_residual.result c.from_residual.ensures.1 in
     let bs = c.args.sheet.now in
     let old = c.args.again.now in
-    let fault = read-refused bs _ c.in-err-read-sheet.ensures.answer in
+    let fault = read-refused bs _ c.in_err-read_sheet.ensures.answer in
     rw (p.1, p.2) (record { answer = sym (ap (λ r. inspected r bs (length old)) fault); again = sym (ap (λ r. again_after r bs old) fault) })
 
 pub returns : goal.returns
 returns c =
     let bs = c.args.sheet.now in
     let old = c.args.again.now in
-    let place = c.read-sheet.new.place in
-    let order = c.read-sheet.new.order in
+    let place = c.read_sheet.new.place in
+    let order = c.read_sheet.new.order in
     let stations = c.size-stations.result in
-    let was = c.in-ok-read-sheet.ensures in
+    let was = c.in_ok-read_sheet.ensures in
     let got = read-accepted bs was.answer in
     let s : Sheet = got.0 in
     let d : decode bs ≡ Ok s = got.1 in
