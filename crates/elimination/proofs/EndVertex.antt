@@ -1,8 +1,8 @@
-use Rattle.std.proofs.Common.{◌≡◌, ℕ, Bool, true, false, not, ◌||◌, eqb, ◌≢◌, ◌⊎◌, List, [], ◌∷◌, sym, refl, ap, ◌∙◌, inl, inr, ⊎_elim}
+use Rattle.std.proofs.Common.{◌≡◌, ℕ, Bool, true, false, ◌||◌, eqb, ◌≢◌, ◌⊎◌, List, [], ◌∷◌, sym, refl, ap, ◌∙◌, inl, inr, ⊎_elim}
 use Rattle.std.proofs.lemmas.Bool.{both_ways, cases_Bool, eqb-true, eqb-false, eq-eqb, or_cases, or_parts, or_left}
 use Rattle.elimination.proofs.Relations.{Symmetric, Irreflexive, Simplicial, Closed, Clique}
 use Rattle.elimination.specs.Graphs.{Graph}
-use Rattle.elimination.specs.Orders.{In, member}
+use Rattle.elimination.specs.Orders.{In}
 
 abbrev pub Fails : (ℕ → Bool) → List ℕ → Type 0
 Fails p xs = (w : ℕ) × In w xs × (p w ≡ false)

@@ -1,5 +1,5 @@
 -- An order that ends in a given station and closes the same graph.
-use Rattle.std.proofs.Common.{◌≡◌, ℕ, zero, suc, ◌≤◌, eqb, ◌≢◌, ◌⊎◌, List, [], ◌∷◌, length, Some, filter, Option, sym, refl, ◌∙◌, inl, inr, ⊎_elim, arith}
+use Rattle.std.proofs.Common.{◌≡◌, ℕ, zero, suc, ◌≤◌, eqb, ◌≢◌, ◌⊎◌, List, [], ◌∷◌, length, Some, filter, sym, refl, ◌∙◌, inl, inr, ⊎_elim, arith}
 use Rattle.std.proofs.lemmas.Bool.{cases_eq, eqb-true, eqb-false}
 use Rattle.elimination.specs.Graphs.{Graph}
 use Rattle.elimination.specs.Orders.{In, Distinct, last_of}

@@ -1,8 +1,8 @@
 -- The theorems of specs/Theorems.antt, proved.
-use Rattle.std.proofs.Common.{◌≡◌, ℕ, true, false, not, ◌⊎◌, List, ◌∙◌, ⊎_elim}
+use Rattle.std.proofs.Common.{◌≡◌, ℕ, true, false, not, List, ◌∙◌, ⊎_elim}
 use Rattle.std.proofs.lemmas.Bool.{both_ways, cases_Bool, and_parts, and_from, not-true, not_from_false}
 use Rattle.network.specs.Net.{Net, Lawful}
-use Rattle.elimination.specs.Graphs.{Graph, Simple, Sub, closed, spare, without}
+use Rattle.elimination.specs.Graphs.{Graph, Simple, Sub, without}
 use Rattle.elimination.specs.Orders.{In, Order, up_to}
 use Rattle.elimination.specs.Elimination.{filled, fill}
 use Rattle.elimination.specs.Theorems.{FilledIsTheLeastClosed, FilledByPaths, EndVertexLaw, WithoutSpareFillMinimal, LessFillLeavesASparePair, SparePairsCanGo, PerfectFillsWithin, AnyStationLast, SeatsWithoutNewFill}

@@ -1,17 +1,17 @@
 -- A sheet that was read is written again: what the two calls say together.
-use Rattle.std.proofs.Common.{◌≡◌, ℕ, ◌+◌, ◌-◌, ◌<◌, ◌≤◌, Bool, true, false, cond, ltb, List, ◌++◌, length, take, drop, Some, None, Ok, Err, Option, Result, sym, refl, ap, ◌∙◌, subst, ap₂, arith}
+use Rattle.std.proofs.Common.{◌≡◌, ℕ, ◌≤◌, Bool, true, false, cond, ltb, List, ◌++◌, length, take, drop, None, Ok, Err, Result, sym, refl, ap, ◌∙◌, ap₂, arith}
 use Rattle.std.specs.Str.{bytes_eq}
 use Rattle.std.proofs.lemmas.Slice.Eq.{bytes_eq-Decides}
 use Rattle.std.proofs.lemmas.List.{take_all, take-append-le}
 use Rattle.std.proofs.lemmas.Bool.{ltb-false, le-ltb, cond-false}
-use Rattle.network.specs.Decode.{decode, reading, fitting, done, order_after, held_after}
+use Rattle.network.specs.Decode.{decode, reading, fitting, done}
 use Rattle.network.specs.Encode.{bytes_of, write_fault, buffer_after}
 use Rattle.network.specs.Laws.{Bytes}
 use Rattle.network.specs.Net.{Net}
 use Rattle.network.specs.Orders.{order_fault}
-use Rattle.network.specs.Refusals.{Fault, at, refuse, or_else, unless}
-use Rattle.network.specs.Sheets.{Sheet, Well, sheet_net, sheet_from, pairs_to}
-use Rattle.network.proofs.Faults.{or_else-none, or_else-past, cond-none-else, unless-ok}
+use Rattle.network.specs.Refusals.{Fault, at, refuse, unless}
+use Rattle.network.specs.Sheets.{Sheet, sheet_net}
+use Rattle.network.proofs.Faults.{or_else-none, or_else-past, cond-none-else}
 use Rattle.network.proofs.SheetNets.{read-ordered, read-same-sheet, read-same-bytes}
 use Rattle.network.proofs.Wells.{read-well}
 use Rattle.logger.specs.Reports.{inspected, again_after, report_of}

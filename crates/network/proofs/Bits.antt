@@ -1,8 +1,8 @@
 -- The laws of the bits of a number: of or, and, not, powers and shifts, and their counts.
-use Rattle.std.proofs.Common.{◌≡◌, ℕ, zero, suc, ◌+◌, ◌-◌, ◌*◌, ◌/◌, ◌%◌, ◌^◌, ◌<◌, ◌≤◌, Bool, true, false, cond, not, ◌&&◌, ◌||◌, eqb, ltb, leb, ◌⊎◌, sym, refl, ap, ◌∙◌, subst, ap₂, inl, inr, ⊎_elim, lt_of_lt_of_le, le_of_suc-le-suc, not-suc-le-zero, add-zero, add-suc, mod-lt, zero-lt-suc, pow-suc, arith, pow_pos, pow_mono, shr-shr}
-use native.Mathlib.Nat.{zero-div, div-eq_of_lt}
+use Rattle.std.proofs.Common.{◌≡◌, ℕ, zero, suc, ◌+◌, ◌-◌, ◌*◌, ◌/◌, ◌%◌, ◌^◌, ◌<◌, ◌≤◌, Bool, true, false, cond, not, ◌&&◌, ◌||◌, eqb, ltb, sym, refl, ap, ◌∙◌, ap₂, ⊎_elim, lt_of_lt_of_le, add-zero, add-suc, mod-lt, zero-lt-suc, pow-suc, arith, pow_pos, pow_mono, shr-shr}
+use native.Mathlib.Nat.{div-eq_of_lt}
 use lib.Dec.{eqb-suc-suc, eqb-zero-suc, eqb-suc-zero}
-use lib.Bits.{bit_and, bit_or, bit_xor, or_shr, or_mod, and_shr, and_mod, and_mask, and_le_l, shifted_half, shifted_even}
+use lib.Bits.{bit_and, bit_or, or_shr, or_mod, and_shr, and_mod, and_mask, and_le_l, shifted_half, shifted_even}
 use lib.Pow.{shl-shr}
 use Rattle.std.proofs.lemmas.Bool.{eq-eqb, ne_eqb, eqb-false, cases_eq, lt-ltb, le-ltb}
 use Rattle.std.proofs.lemmas.Bool.Decides.{nat_tests}

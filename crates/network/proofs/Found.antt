@@ -1,5 +1,5 @@
 -- The fields of a sheet stand in the bytes, and so do its bits.
-use Rattle.std.proofs.Common.{◌≡◌, ℕ, zero, suc, ◌+◌, ◌-◌, ◌*◌, ◌/◌, ◌%◌, ◌^◌, ◌<◌, ◌≤◌, Bool, true, false, cond, eqb, ◌⊎◌, List, [], ◌∷◌, ◌++◌, map, length, get_or, sym, refl, ap, ◌∙◌, subst, ap₂, inl, inr, ⊎_elim, pow-suc, mul-suc, arith, lit<, pow_pos}
+use Rattle.std.proofs.Common.{◌≡◌, ℕ, ◌+◌, ◌-◌, ◌*◌, ◌/◌, ◌%◌, ◌^◌, ◌<◌, Bool, List, ◌++◌, length, get_or, sym, refl, ap, ◌∙◌, ⊎_elim, arith, lit<, pow_pos}
 use Rattle.std.proofs.lemmas.List.{get_or_past, length-append}
 use Rattle.std.proofs.lemmas.Bool.{cases_lt}
 use Rattle.network.proofs.Bits.{bit_at-none}
@@ -7,7 +7,7 @@ use Rattle.network.proofs.Standing.{length-bits_of, get_or-bits_of, length-sprea
 use Rattle.network.specs.Bits.{bit_at}
 use Rattle.network.specs.Decode.{place_for, value_at}
 use Rattle.network.specs.Fields.{bit_of, field}
-use Rattle.network.specs.Sheets.{Sheet, bits_of, spread, pack, bits_in, width, named}
+use Rattle.network.specs.Sheets.{Sheet, bits_of, spread, bits_in, width, named}
 
 pub record Found (bs : List ℕ) (s : Sheet) : Type 0 where
   pub kind : field bs 0 5 ≡ 1

@@ -1,13 +1,13 @@
 -- A sheet and neighbour lists with the same couplings have the same network.
-use Rattle.std.proofs.Common.{◌≡◌, ℕ, ◌<◌, min, max, Bool, true, false, not, ◌&&◌, eqb, ltb, List, is_some, sym, refl, ap, ◌∙◌, inl, inr, arith}
+use Rattle.std.proofs.Common.{◌≡◌, ℕ, min, max, Bool, true, ltb, is_some, ap, ◌∙◌, inl, inr, arith}
 use mathlib.Core.Path.{fun_ext}
 use Rattle.std.proofs.lemmas.Bool.{cases_order, ltb-true}
 use Rattle.std.proofs.lemmas.Bool.Decides.{nat_tests}
-use Rattle.network.specs.Lists.{list_size, named_in, list_net, lists_fault}
+use Rattle.network.specs.Lists.{list_size, named_in, list_net}
 use Rattle.network.specs.ListLaws.{list_lawful}
 use Rattle.network.specs.Net.{Net, Lawful}
 use Rattle.network.specs.SheetLaws.{SameCouplingsSameMeaning}
-use Rattle.network.specs.Sheets.{Sheet, has_pair, sheet_net}
+use Rattle.network.specs.Sheets.{has_pair, sheet_net}
 
 pub same-meaning : SameCouplingsSameMeaning
 same-meaning bs starts names s d none size same =

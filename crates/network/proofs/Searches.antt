@@ -1,17 +1,16 @@
 -- The pairs of a sheet rise, and are found by their keys.
-use Rattle.std.proofs.Common.{◌≡◌, ℕ, zero, suc, ◌+◌, ◌-◌, ◌*◌, ◌^◌, ◌<◌, ◌≤◌, Bool, true, false, cond, ◌&&◌, ◌||◌, eqb, ltb, ◌⊎◌, List, [], ◌∷◌, ◌++◌, map, length, get_or, Some, None, Option, sym, refl, ap, ◌∙◌, subst, ap₂, inl, inr, ⊎_elim, arith, pow_mono}
-use Rattle.std.specs.List.{range_with_len}
+use Rattle.std.proofs.Common.{◌≡◌, ℕ, zero, suc, ◌+◌, ◌-◌, ◌*◌, ◌^◌, ◌<◌, ◌≤◌, true, false, ◌&&◌, ◌||◌, eqb, ltb, List, [], ◌∷◌, length, get_or, Some, None, Option, sym, refl, ap, ◌∙◌, ap₂, ⊎_elim, arith, pow_mono}
 use Rattle.std.proofs.lemmas.List.FromFn.{length-map-range_with_len, get_or-map-range_with_len}
-use Rattle.std.proofs.lemmas.Bool.{cases_lt, cases_eq, eq-eqb, ne_eqb, eqb-true, ltb-true, leb-true, and_parts, and_from, and_left, and_right, or_left, or_right, or_from, or_cases, false≢true}
+use Rattle.std.proofs.lemmas.Bool.{cases_lt, cases_eq, eq-eqb, ne_eqb, eqb-true, ltb-true, and_parts, and_from, and_left, and_right, or_left, or_right, or_from, or_cases, false≢true}
 use Rattle.std.proofs.lemmas.Bool.Decides.{nat_tests}
-use Rattle.network.proofs.Faults.{cond-none, cond-none-else, or_else-none, each_none}
+use Rattle.network.proofs.Faults.{cond-none, or_else-none, each_none}
 use Rattle.network.proofs.Fields.{field_lt}
 use Rattle.network.proofs.Places.{width_few}
 use Rattle.network.specs.Decode.{place_for, value_at, header_fault, pair_fault, placed_fault, end_fault, body_fault, fault, sheet_of, couplings_of, order_of, faultless, Stands}
 use Rattle.network.specs.Parts.{key_at}
 use Rattle.network.specs.Fields.{field, is_in}
 use Rattle.network.specs.Refusals.{Fault, or_else, first_fault}
-use Rattle.network.specs.Sheets.{Sheet, width, before, has_pair}
+use Rattle.network.specs.Sheets.{width, before, has_pair}
 
 pub value-small : (bs : List ℕ) (w i : ℕ) → w ≤ 9 → value_at bs w i < 512
 unfolding value_at

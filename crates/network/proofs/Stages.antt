@@ -1,13 +1,12 @@
 -- The checks of a sheet, stage by stage.
-use Rattle.std.proofs.Common.{◌≡◌, ℕ, ◌+◌, ◌*◌, ◌^◌, ◌<◌, ◌≤◌, Bool, true, false, cond, ltb, List, ◌++◌, map, length, drop, Some, None, Ok, Err, Option, Result, sym, refl, ap, ◌∙◌, subst, ap₂, arith}
-use Rattle.std.proofs.lemmas.Bool.{cond-true, cond-false, lt-ltb, le-ltb}
+use Rattle.std.proofs.Common.{◌≡◌, ℕ, ◌+◌, ◌*◌, List, Some, None, Ok, Err, Option, sym, ap, ◌∙◌, ap₂}
 use Rattle.network.proofs.Faults.{or_else-some, or_else-past, unless-err, unless-ok}
-use Rattle.network.specs.Decode.{place_for, header_fault, pair_fault, placed_fault, end_fault, body_fault, fault, sheet_of, couplings_of, order_of, decode, faultless, Stands, fitting}
+use Rattle.network.specs.Decode.{place_for, header_fault, pair_fault, placed_fault, end_fault, body_fault, fault, sheet_of, decode, faultless, Stands}
 use Rattle.network.specs.declared.sheets.Header.{Header}
 use Rattle.network.specs.Parts.{header_in, head_of}
 use Rattle.network.specs.Fields.{field}
-use Rattle.network.specs.Refusals.{Fault, at, or_else, first_fault, unless}
-use Rattle.network.specs.Sheets.{Sheet, width}
+use Rattle.network.specs.Refusals.{Fault, or_else, first_fault, unless}
+use Rattle.network.specs.Sheets.{width}
 
 pub head-err : (bs : List ℕ) (e : Fault) → Err e ≡ head_of bs → fault bs ≡ Some e
 unfolding fault

@@ -1,5 +1,5 @@
 -- No two refusals tell the same number and place: from these the refusal comes back.
-use Rattle.std.proofs.Common.{◌≡◌, ℕ, cond, eqb, sym, refl, ap, ◌∙◌, ap₂}
+use Rattle.std.proofs.Common.{◌≡◌, cond, eqb, sym, refl, ap, ◌∙◌}
 use Rattle.network.specs.declared.refusal.Refusal.{Refusal}
 use Rattle.network.specs.declared.refusal.Refusal.TheVariants.{NotWhole, WrongKind, SizeOutOfRange, TooManyCouplings, NoPair, PairNotRising, NoOrderStation, NotEnded, StartsLength, NoStart, NoName, OneSided, OrderLength, NoStation, OutOfRange, TooShort, TableTooShort, NoPlace, UnusablePivot, SheetTooLong}
 use Rattle.network.specs.Refusals.{Fault, told}

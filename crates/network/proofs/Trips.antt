@@ -1,19 +1,19 @@
 -- The two round trips.
-use Rattle.std.proofs.Common.{◌≡◌, ℕ, zero, suc, ◌+◌, ◌-◌, ◌*◌, ◌/◌, ◌%◌, ◌^◌, ◌<◌, ◌≤◌, Bool, true, false, cond, not, ◌&&◌, ◌||◌, eqb, ltb, leb, ◌⊎◌, List, [], ◌∷◌, ◌++◌, map, length, get_or, Some, None, Ok, Err, Option, Result, sym, refl, ap, ◌∙◌, subst, ap₂, inl, inr, ⊎_elim, mul-le-mul, mul-suc, arith}
+use Rattle.std.proofs.Common.{◌≡◌, ℕ, zero, suc, ◌+◌, ◌-◌, ◌*◌, ◌/◌, ◌%◌, ◌^◌, ◌<◌, ◌≤◌, Bool, true, false, cond, ◌&&◌, eqb, List, [], ◌∷◌, map, length, get_or, None, Ok, Option, sym, refl, ap, ◌∙◌, subst, ap₂, ⊎_elim, mul-le-mul, arith}
 use Rattle.std.specs.List.{range_with_len}
-use Rattle.std.proofs.lemmas.List.{get_or_append_left, get_or-append_right, get_or-append-add, length-append, ext_get_or}
+use Rattle.std.proofs.lemmas.List.{get_or_append_left, get_or-append-add, length-append, ext_get_or}
 use Rattle.std.proofs.lemmas.List.FromFn.{length-map-range_with_len, get_or-map-range_with_len}
-use Rattle.std.proofs.lemmas.Bool.{cases_lt, cases_eq, eq-eqb, ne_eqb, eqb-true, ltb-false, le-ltb, lt-ltb, le-leb, leb-true, and_from, and_parts, or_left, or_right, cond_both, not_from_false}
-use Rattle.network.proofs.Faults.{cond-none, cond-none-else, or_else-none, none-or_else, no-fault, each_none, unless-ok}
+use Rattle.std.proofs.lemmas.Bool.{cases_lt, cases_eq, eq-eqb, eqb-true, le-ltb, lt-ltb, le-leb, and_from, and_parts, or_left, or_right, not_from_false}
+use Rattle.network.proofs.Faults.{cond-none, cond-none-else, or_else-none, none-or_else, no-fault, unless-ok}
 use Rattle.network.proofs.Found.{Found, Small, found, holds}
 use Rattle.network.proofs.Marks.{unnamed}
 use Rattle.network.proofs.Places.{place-within, width-holds}
 use Rattle.network.proofs.Standing.{pack-holds, holds-pack}
 use Rattle.network.specs.Decode.{place_for, value_at, header_fault, pair_fault, placed_fault, end_fault, body_fault, fault, sheet_of, couplings_of, order_of, decode}
 use Rattle.network.specs.Fields.{field, is_in}
-use Rattle.network.specs.Laws.{Bytes, WrittenReads, ReadWrites}
+use Rattle.network.specs.Laws.{WrittenReads, ReadWrites}
 use Rattle.network.specs.Refusals.{Fault, refuse, or_else, first_fault, unless}
-use Rattle.network.specs.Sheets.{Sheet, Well, flat, named, pair_at, before, width_to, width, encode, bits_in}
+use Rattle.network.specs.Sheets.{Sheet, Well, flat, named, pair_at, before, width, encode, bits_in}
 
 -- ---- stations in a row
 

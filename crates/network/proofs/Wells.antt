@@ -1,6 +1,5 @@
 -- What is read is a network and one of its orders.
-use Rattle.std.proofs.Common.{◌≡◌, ℕ, zero, suc, ◌+◌, ◌-◌, ◌*◌, ◌/◌, ◌<◌, ◌≤◌, Bool, true, false, cond, not, ◌&&◌, ◌||◌, eqb, ltb, List, [], ◌∷◌, ◌++◌, map, length, get_or, Some, None, Ok, Option, sym, refl, ap, ◌∙◌, subst, ap₂, ⊎_elim, arith}
-use Rattle.std.specs.List.{range_with_len}
+use Rattle.std.proofs.Common.{◌≡◌, ℕ, suc, ◌+◌, ◌-◌, ◌*◌, ◌/◌, ◌<◌, ◌≤◌, false, cond, not, ◌&&◌, eqb, ltb, List, length, get_or, Some, None, sym, refl, ap, ◌∙◌, subst, ap₂, ⊎_elim, arith}
 use Rattle.std.proofs.lemmas.List.FromFn.{length-map-range_with_len, get_or-map-range_with_len}
 use Rattle.std.proofs.lemmas.Bool.{eqb-true, ltb-true, and_parts, or_cases, not-true}
 use Rattle.std.proofs.lemmas.Bool.Decides.{nat_tests}
@@ -12,7 +11,7 @@ use Rattle.network.specs.Fields.{field, is_in}
 use Rattle.network.specs.Laws.{ReadWell}
 use Rattle.network.specs.Orders.{named_before}
 use Rattle.network.specs.Refusals.{or_else, first_fault}
-use Rattle.network.specs.Sheets.{Sheet, Well, pair_at, width, before}
+use Rattle.network.specs.Sheets.{Well, pair_at, width, before}
 
 few-pairs : (bs : List ℕ) → header_fault bs ≡ None → field bs 15 17 ≤ field bs 5 10 * (field bs 5 10 - 1) / 2
 unfolding header_fault

@@ -1,5 +1,5 @@
 -- What a writing of a network and an order as a sheet answers, and what it leaves in the buffer.
-use Rattle.std.specs.Prelude.{ℕ, Bool, cond, List, ◌++◌, length, drop, Some, None, Option, nat_lt}
+use Rattle.std.specs.Prelude.{ℕ, cond, List, ◌++◌, length, drop, Some, None, Option, nat_lt}
 use Rattle.network.specs.Net.{Net}
 use Rattle.network.specs.Orders.{order_fault}
 use Rattle.network.specs.Refusals.{Fault, refuse, or_else}

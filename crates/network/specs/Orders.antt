@@ -1,5 +1,5 @@
 -- A list of numbers as an order of n stations: each of them named once.
-use Rattle.std.specs.Prelude.{ℕ, zero, suc, Bool, true, false, cond, not, ◌&&◌, ◌||◌, List, length, None, Option, ◌==◌, nat_le, nat_lt, slice_index}
+use Rattle.std.specs.Prelude.{ℕ, zero, suc, Bool, false, cond, not, ◌&&◌, ◌||◌, List, length, None, Option, ◌==◌, nat_le, nat_lt, slice_index}
 use Rattle.network.specs.Refusals.{Fault, refuse, first_fault}
 
 -- v is one of the first k values

@@ -1,10 +1,10 @@
 -- The network of a sheet is lawful: what the ghost member of its implementation cites.
-use Rattle.std.specs.Prelude.{◌≡◌, ℕ, ◌<◌, ◌≤◌, min, max, Bool, true, false, not, ◌&&◌, List, ◌==◌, nat_lt, refl}
+use Rattle.std.specs.Prelude.{◌≡◌, ℕ, ◌≤◌, min, max, Bool, true, false, not, ◌&&◌, List, ◌==◌, nat_lt, refl}
 use Rattle.std.proofs.Common.{sym, ap, ap₂, ◌∙◌, inl, inr}
 use Rattle.std.proofs.Math.Nat.{max_comm, min_comm}
 use Rattle.std.proofs.lemmas.Bool.{cases_eq, eq-eqb, ne_eqb, and_parts, ltb-true}
 use Rattle.network.specs.Decode.{sheet_of, couplings_of, order_of}
-use Rattle.network.specs.Net.{Net, Lawful}
+use Rattle.network.specs.Net.{Lawful}
 use Rattle.network.specs.Sheets.{Sheet, sheet_net, has_pair}
 
 -- the same test of two numbers, whichever comes first

@@ -1,5 +1,5 @@
 -- What a plan keeps, in the forms that calls on its parts ask for.
-use Rattle.std.proofs.Common.{◌≡◌, ℕ, true, List, sym, refl, ap, ◌∙◌, subst}
+use Rattle.std.proofs.Common.{◌≡◌, ℕ, true, List, sym, ap, ◌∙◌, subst}
 use mathlib.Core.Path.{fun_ext}
 use Rattle.network.specs.Net.{Net, Lawful}
 use Rattle.elimination.specs.Elimination.{filled}
@@ -10,7 +10,6 @@ use Rattle.elimination.proofs.Listing.{order-of}
 use Rattle.elimination.proofs.Relations.{closed-to}
 use Rattle.elimination.proofs.Statements.{filled-order-closed, filled-simple, lawful-simple}
 use Rattle.plan_parts.specs.PlanStates.{PlanState, opening}
-use Rattle.plan_parts.specs.PlanView.{view}
 use Rattle.plan_parts.specs.declared.plan.Plan.{Plan}
 
 pub simple-couplings : (p : Plan) → Simple p.order.size (graph p.couplings)

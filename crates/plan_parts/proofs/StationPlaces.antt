@@ -1,8 +1,7 @@
 -- The places of stations: where a graph over stations has a pair, its reserve has a place.
-use Rattle.std.proofs.Common.{◌≡◌, ℕ, ◌<◌, ◌≤◌, min, max, Bool, true, false, cond, ◌&&◌, ◌||◌, eqb, ltb, ◌≢◌, ◌⊎◌, List, length, get_or, is_some, sym, refl, ap, ◌∙◌, subst, ap₂, inl, inr, ⊎_elim, arith}
+use Rattle.std.proofs.Common.{◌≡◌, ℕ, ◌<◌, min, max, Bool, true, false, ◌||◌, eqb, List, get_or, is_some, sym, refl, ap, ◌∙◌, subst, ap₂, inl, inr, ⊎_elim, arith}
 use Rattle.std.proofs.lemmas.Bool.{cases_eq, cases_order, lt-ltb, eq-eqb, ne_eqb}
-use Rattle.std.proofs.lemmas.Bool.Decides.{nat_tests}
-use Rattle.elimination.specs.Graphs.{Graph, Simple}
+use Rattle.elimination.specs.Graphs.{Graph}
 use Rattle.elimination.specs.Orders.{Order, position_of}
 use Rattle.elimination.specs.Elimination.{filled}
 use Rattle.elimination.proofs.Listing.{index_of, order-length, position_of_station}
@@ -10,7 +9,7 @@ use Rattle.elimination.proofs.Relations.{plain}
 use Rattle.elimination.proofs.Statements.{lawful-simple, filled-simple, filled-order-closed}
 use Rattle.plan_parts.specs.Layout.{cell, place_for, in_column, Closed}
 use Rattle.plan_parts.specs.Reserves.{Symmetric, by_position, place_of_stations}
-use Rattle.plan_parts.specs.ReserveLaws.{Grounded, PlacesForFilledPairs, FilledPlacesAreClosed, FilledPairsAreGrounded}
+use Rattle.plan_parts.specs.ReserveLaws.{PlacesForFilledPairs, FilledPlacesAreClosed, FilledPairsAreGrounded}
 use Rattle.plan_parts.proofs.Columns.{column-own, column-later}
 use Rattle.plan_parts.proofs.Grounds.{grounded}
 use Rattle.plan_parts.proofs.Positions.{position_at, position-parts, position-symmetric, position-closed}

@@ -1,6 +1,6 @@
 -- The places of a reserve, by positions in its order: column by column, in each column its own position first and
 -- then the later positions that form a filled pair with it, by rising position.
-use Rattle.std.specs.Prelude.{◌≡◌, ℕ, zero, suc, ◌+◌, ◌<◌, ◌≤◌, min, max, Bool, true, false, cond, not, ◌&&◌, ◌||◌, ◌≢◌, Some, None, Option, ◌==◌, nat_lt}
+use Rattle.std.specs.Prelude.{◌≡◌, ℕ, zero, suc, ◌+◌, ◌<◌, min, max, Bool, true, cond, ◌&&◌, ◌||◌, ◌≢◌, Some, None, Option, ◌==◌, nat_lt}
 use Rattle.elimination.specs.Graphs.{Graph}
 
 -- the column j has a place for the position i

@@ -1,5 +1,5 @@
 -- What writing an order to the front of a list answers and leaves there.
-use Rattle.std.specs.Prelude.{ℕ, Bool, cond, List, ◌++◌, length, drop, Ok, Err, Result, nat_lt}
+use Rattle.std.specs.Prelude.{ℕ, cond, List, ◌++◌, length, drop, Ok, Err, Result, nat_lt}
 use Rattle.network.specs.Refusals.{Fault, at}
 
 -- done, or how many numbers the list must have

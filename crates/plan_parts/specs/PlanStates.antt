@@ -1,5 +1,5 @@
 -- A plan as its user sees it, the calls that are made on it, and the histories that lead to it.
-use Rattle.std.specs.Prelude.{◌≡◌, ℕ, ◌+◌, ◌<◌, ◌≤◌, min, Bool, true, false, cond, not, ltb, List, [], ◌∷◌, ◌++◌, is_some, Some}
+use Rattle.std.specs.Prelude.{◌≡◌, ℕ, ◌+◌, ◌<◌, ◌≤◌, min, Bool, true, false, cond, not, List, [], ◌∷◌, ◌++◌, is_some, Some}
 use Rattle.network.specs.Net.{Net, Lawful}
 use Rattle.network.specs.Orders.{order_fault}
 use Rattle.elimination.specs.Graphs.{Sub}

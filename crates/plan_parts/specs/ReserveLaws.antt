@@ -1,5 +1,5 @@
 -- What is proved of reserves: statements that contracts cite, over every lawful network and every order of it.
-use Rattle.std.specs.Prelude.{◌≡◌, ℕ, ◌<◌, Bool, true, ◌||◌, ◌⊎◌, is_some, ◌==◌}
+use Rattle.std.specs.Prelude.{◌≡◌, ℕ, ◌<◌, true, ◌||◌, ◌⊎◌, is_some, ◌==◌}
 use Rattle.elimination.specs.Graphs.{Graph}
 use Rattle.elimination.specs.Elimination.{filled}
 use Rattle.elimination.specs.Theorems.{ForEveryOrder}

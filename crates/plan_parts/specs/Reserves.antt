@@ -1,5 +1,5 @@
 -- What every reserve keeps, over its filled pairs by positions and its number of stations.
-use Rattle.std.specs.Prelude.{◌≡◌, ℕ, ◌-◌, ◌<◌, ◌≤◌, Bool, true, false, cond, ◌&&◌, List, length, Ok, Err, Option, Result, nat_lt, slice_index}
+use Rattle.std.specs.Prelude.{◌≡◌, ℕ, ◌-◌, ◌<◌, ◌≤◌, Bool, true, false, cond, ◌&&◌, List, length, Err, Option, Result, nat_lt, slice_index}
 use Rattle.network.specs.Net.{first_from}
 use Rattle.network.specs.Refusals.{Fault, at}
 use Rattle.elimination.specs.Graphs.{Graph}

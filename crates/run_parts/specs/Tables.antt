@@ -1,5 +1,5 @@
 -- The two tables of a run: entries, and a mark beside each. Mark 0 means empty, any other mark means held.
-use Rattle.std.specs.Prelude.{ℕ, zero, suc, ◌<◌, ◌≤◌, cond, List, [], ◌∷◌, length, set, Some, None, Option, ◌==◌, slice_index, slice_set}
+use Rattle.std.specs.Prelude.{ℕ, zero, suc, ◌<◌, ◌≤◌, cond, List, [], ◌∷◌, length, Some, None, Option, ◌==◌, slice_index, slice_set}
 use Rattle.std.specs.List.{slice_get}
 use Rattle.elimination.specs.Graphs.{Graph}
 use Rattle.plan_parts.specs.Layout.{places, cell}

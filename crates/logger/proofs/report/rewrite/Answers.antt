@@ -1,6 +1,6 @@
-use Rattle.std.proofs.Common.{◌≡◌, ℕ, ◌-◌, ◌≤◌, Bool, List, ◌++◌, length, take, drop, None, Ok, Result, sym, refl, ap, ◌∙◌, ap₂, arith, rules}
+use Rattle.std.proofs.Common.{◌≡◌, ℕ, ◌-◌, ◌≤◌, Bool, ◌++◌, length, take, drop, Ok, Result, sym, ap, ◌∙◌, ap₂, arith, rules}
 use Rattle.std.specs.Str.{bytes_eq}
-use Rattle.network.specs.Encode.{bytes_of, write_fault, buffer_after}
+use Rattle.network.specs.Encode.{bytes_of, buffer_after}
 use Rattle.network.specs.Net.{Net}
 use Rattle.network.specs.Refusals.{Fault, unless}
 use Rattle.network.specs.Sheets.{pairs_to}

@@ -1,4 +1,4 @@
-use Rattle.std.proofs.Common.{◌≡◌, arith, rules}
+use Rattle.std.proofs.Common.{arith}
 use Rattle.network.proofs.Fields.{field-three}
 use Rattle.network.proofs.bit_fields.window_of.Goals as goal
 

@@ -5,7 +5,7 @@ use Rattle.network.specs.Fields.{field, bit_of}
 use Rattle.network.specs.Orders.{named_before}
 use Rattle.network.specs.Refusals.{first_fault}
 use Rattle.network.specs.Sheets.{width, width_to}
-use Rattle.network.specs.Decode.{fault, header_fault, body_fault, pair_fault, placed_fault, end_fault, sheet_of, couplings_of, order_of, place_for, value_at}
+use Rattle.network.specs.Decode.{fault, header_fault, body_fault, pair_fault, placed_fault, end_fault, couplings_of, order_of, place_for, value_at}
 use Rattle.network.proofs.sheets.SheetNetwork.lone.Goals as goal
 
 pub invariant_of-result : goal.invariant_of-result

@@ -1,7 +1,7 @@
-use Rattle.std.proofs.Common.{◌≡◌, ℕ, ◌+◌, ◌*◌, List, Some, None, sym, refl, ap, ◌∙◌, arith, rules}
+use Rattle.std.proofs.Common.{◌*◌, sym, ap, ◌∙◌}
 use Rattle.std.proofs.lemmas.Result.{err_from_is_err_and}
-use Rattle.network.specs.Decode.{fault, placed_fault, end_fault, place_for}
-use Rattle.network.specs.Refusals.{first_fault, or_else}
+use Rattle.network.specs.Decode.{placed_fault, end_fault}
+use Rattle.network.specs.Refusals.{first_fault}
 use Rattle.network.proofs.Faults.{or_else-some, or_else-past, unless-err, unless-ok}
 use Rattle.network.proofs.Stages.{head-err, head_ok, body-pairs, body-order, decode-err, decode-ok}
 use Rattle.network.proofs.sheets.checks.check_sheet.Goals as goal

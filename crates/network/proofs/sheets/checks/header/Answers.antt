@@ -1,7 +1,7 @@
-use Rattle.std.proofs.Common.{get_or, refl, arith, rules}
+use Rattle.std.proofs.Common.{refl, arith}
 use Rattle.std.proofs.lemmas.Bool.Decides.{nat_tests}
 use Rattle.network.specs.Decode.{header_fault}
-use Rattle.network.proofs.Fields.{header-fields, field_lt}
+use Rattle.network.proofs.Fields.{header-fields}
 use Rattle.network.proofs.sheets.checks.header.Goals as goal
 
 pub returns-in_default : goal.returns-in_default

@@ -1,6 +1,5 @@
-use Rattle.std.proofs.Common.{◌≡◌, ℕ, ◌+◌, ◌-◌, ◌*◌, ◌/◌, ◌<◌, ◌≤◌, sym, ap, ◌∙◌, ⊎_elim, arith}
+use Rattle.std.proofs.Common.{◌≡◌, ℕ, ◌+◌, ◌-◌, ◌*◌, ◌/◌, ◌<◌, sym, ap, ◌∙◌, ⊎_elim, arith}
 use Rattle.std.proofs.lemmas.Bool.{cases_lt, cases_eq}
-use Rattle.network.specs.Sheets.{width}
 use Rattle.network.specs.Parts.{key_at}
 use Rattle.network.proofs.Searches.{stands-few, key-less-at, has_key, has-no-key}
 use Rattle.network.proofs.sheets.questions.find_pair.Goals as goal

@@ -1,4 +1,4 @@
-use Rattle.std.proofs.Common.{◌≡◌, ℕ, ◌+◌, ◌-◌, ◌*◌, ◌<◌, ◌≤◌, map, length, get_or, take, drop}
+use Rattle.std.proofs.Common.{◌≡◌, ◌+◌, ◌*◌, ◌≤◌, map, take, drop}
 use Rattle.std.specs.List.{range_with_len}
 use Rattle.network.specs.Decode.{place_for, value_at}
 use Rattle.network.proofs.sheets.reading.put_order.Given as goal

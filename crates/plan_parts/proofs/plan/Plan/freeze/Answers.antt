@@ -1,4 +1,4 @@
-use Rattle.std.proofs.Common.{◌≡◌, ℕ, List, ◌∙◌, ap₂, rules}
+use Rattle.std.proofs.Common.{ℕ, List, ◌∙◌, ap₂}
 use Rattle.elimination.specs.Graphs.{Graph}
 use Rattle.plan_parts.specs.Reserves.{by_position}
 use Rattle.plan_parts.specs.PlanView.{view}

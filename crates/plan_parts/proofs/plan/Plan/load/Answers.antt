@@ -1,4 +1,4 @@
-use Rattle.std.proofs.Common.{◌≡◌, List, Option, Result, sym, ap, ◌∙◌}
+use Rattle.std.proofs.Common.{Option, Result, sym, ap, ◌∙◌}
 use Rattle.network.specs.Orders.{order_fault}
 use Rattle.network.specs.Refusals.{Fault, told, unless}
 use Rattle.network.proofs.Faults.{unless-err, unless-ok}

@@ -1,6 +1,6 @@
-use Rattle.std.proofs.Common.{◌≡◌, ℕ, true, List, sym, ◌∙◌, subst, arith}
+use Rattle.std.proofs.Common.{◌≡◌, ℕ, true, List, sym, subst, arith}
 use Rattle.elimination.specs.Graphs.{Simple, closed}
-use Rattle.elimination.specs.View.{graph, listed}
+use Rattle.elimination.specs.View.{graph}
 use Rattle.plan_parts.proofs.Plans.{pairs-closed, pairs-simple}
 use Rattle.plan_parts.proofs.plan.Plan.same_order.Goals as goal
 

@@ -1,4 +1,4 @@
-use Rattle.std.proofs.Common.{◌≡◌, ℕ, sym, ap, ◌∙◌, arith}
+use Rattle.std.proofs.Common.{ℕ, ap, ◌∙◌, arith}
 use Rattle.elimination.specs.Graphs.{Graph}
 use Rattle.elimination.specs.View.{graph, listed}
 use Rattle.plan_parts.specs.PlanStates.{PlanState}

@@ -1,4 +1,4 @@
-use Rattle.std.proofs.Common.{◌≡◌, ℕ, ap}
+use Rattle.std.proofs.Common.{ap}
 use Rattle.elimination.specs.Graphs.{Graph}
 use Rattle.plan_parts.proofs.plan.calls.settled.Goals as goal
 

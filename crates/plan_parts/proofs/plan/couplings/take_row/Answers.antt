@@ -1,4 +1,4 @@
-use Rattle.std.proofs.Common.{◌≡◌, Bool, cond, ap, ◌∙◌}
+use Rattle.std.proofs.Common.{Bool, cond, ap, ◌∙◌}
 use Rattle.elimination.specs.Graphs.{Graph, including}
 use Rattle.elimination.specs.View.{graph}
 use Rattle.plan_parts.proofs.Couplings.{below_more, below_none}

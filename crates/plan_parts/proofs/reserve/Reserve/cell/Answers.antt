@@ -1,5 +1,5 @@
-use Rattle.std.proofs.Common.{◌≡◌, ℕ, ◌+◌, ◌<◌, ◌≤◌, true, false, Some, None, Option, sym, ap, ◌∙◌, subst, ⊎_elim, arith}
-use Rattle.plan_parts.specs.Layout.{cell, start}
+use Rattle.std.proofs.Common.{ℕ, ◌<◌, ◌≤◌, Some, sym, ap, ◌∙◌, ⊎_elim, arith}
+use Rattle.plan_parts.specs.Layout.{cell}
 use Rattle.plan_parts.specs.ReserveView.{filled_in, size_in}
 use Rattle.plan_parts.proofs.Numbering.{no_cell, cell_out}
 use Rattle.plan_parts.proofs.Columns.{cell-own, cell-later, column-above, column-later}

@@ -1,4 +1,4 @@
-use Rattle.std.proofs.Common.{◌≡◌, ℕ, ◌≤◌, get_or, sym, ap, ◌∙◌, subst, arith, rules}
+use Rattle.std.proofs.Common.{ℕ, get_or, ap, ◌∙◌, arith}
 use Rattle.plan_parts.specs.Layout.{places}
 use Rattle.plan_parts.specs.ReserveView.{filled_in, size_in}
 use Rattle.plan_parts.proofs.Columns.{places-small}

@@ -1,4 +1,4 @@
-use Rattle.std.proofs.Common.{ℕ, ◌<◌, ◌≤◌, arith, rules}
+use Rattle.std.proofs.Common.{arith}
 use Rattle.plan_parts.specs.ReserveView.{filled_in, size_in}
 use Rattle.plan_parts.proofs.Columns.{next-outside, next-own, next-later, first_next}
 use Rattle.plan_parts.proofs.reserve.Reserve.next_in_column.Goals as goal

@@ -1,11 +1,11 @@
-use Rattle.std.proofs.Common.{◌≡◌, ℕ, ◌≤◌, sym, ap, ◌∙◌, subst, arith, rules}
+use Rattle.std.proofs.Common.{◌≡◌, ℕ, sym, subst}
 use Rattle.elimination.specs.Graphs.{Graph}
 use Rattle.elimination.specs.View.{graph, listed}
 use Rattle.elimination.proofs.Listing.{order-of, listed-length}
 use Rattle.elimination.proofs.Relations.{closed-from}
 use Rattle.plan_parts.specs.Layout.{Closed}
-use Rattle.plan_parts.specs.Reserves.{Symmetric, Irreflexive, Below, Begins, by_position}
-use Rattle.plan_parts.proofs.Positions.{position-symmetric, position-irreflexive, position-below, position-closed}
+use Rattle.plan_parts.specs.Reserves.{Irreflexive, Below, Begins, by_position}
+use Rattle.plan_parts.proofs.Positions.{position-irreflexive, position-below, position-closed}
 use Rattle.plan_parts.proofs.reserve.Reserve.settled.Goals as goal
 
 pub invariant_of-result : goal.invariant_of-result

@@ -1,4 +1,4 @@
-use Rattle.std.proofs.Common.{◌≡◌, ◌∙◌, arith, rules}
+use Rattle.std.proofs.Common.{◌∙◌, arith}
 use Rattle.elimination.specs.View.{graph, listed}
 use Rattle.elimination.proofs.Listing.{listed-length}
 use Rattle.plan_parts.specs.Reserves.{by_position}

@@ -1,4 +1,4 @@
-use Rattle.std.proofs.Common.{◌≡◌, ℕ, ◌+◌, ◌<◌, ◌≤◌, length, get_or, ◌∙◌, arith, length-set, rules}
+use Rattle.std.proofs.Common.{◌∙◌, arith, length-set, rules}
 use Rattle.elimination.specs.View.{graph}
 use Rattle.plan_parts.proofs.Columns.{begins-none, begins-more, start_small}
 use Rattle.plan_parts.proofs.reserve.parts.column_starts.Goals as goal
