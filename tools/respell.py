@@ -28,6 +28,8 @@ OTHERWISE = {
     "startFits": "is_fitting_start",
     "station-at": "station_at_position",
 }
+# definitions that the toolchain's script gave the name of a function beside them: only what cites the definition turns
+BESIDE = {"key_at": "pair_key", "entry_at": "held_entry"}
 GENERATED = re.compile(
     r"^(invariant|decreases|loop|returns|if|bounds|slice_bounds|overflow|nonzero|offset|prove|match|else|then|in|ghost)[-_]|-requires|-clause-"
 )
@@ -90,14 +92,24 @@ def renamings():
     return found
 
 
+def set_apart(path, text):
+    """The text with the names of BESIDE turned, in proof files and in the ghost lines of a source."""
+    cited = re.compile(r"(?<![\w'.-])(" + "|".join(BESIDE) + r")(?![\w'-])")
+    if path.suffix == ".antt":
+        return cited.sub(lambda m: BESIDE[m[1]], text)
+    ghost = re.compile(r"^\s*(ghost|requires|ensures)\b")
+    return "\n".join(cited.sub(lambda m: BESIDE[m[1]], line) if ghost.match(line) else line for line in text.split("\n"))
+
+
 def main():
     found = renamings()
     pattern = re.compile(r"(?<![\w'-])(" + "|".join(sorted(map(re.escape, found), key=len, reverse=True)) + r")(?![\w'-])")
     for path in texts():
         old = path.read_text()
-        new = pattern.sub(lambda m: found[m[1]], old)
+        new = set_apart(path, pattern.sub(lambda m: found[m[1]], old) if found else old)
         if new != old:
             path.write_text(new)
+    found.update(BESIDE)
     for name in sorted(found):
         print(f"{name} -> {found[name]}")
     back = {}
