@@ -7,7 +7,7 @@ use Rattle.network.proofs.Faults.{cond-none, or_else-none, each_none}
 use Rattle.network.proofs.Fields.{field_lt}
 use Rattle.network.proofs.Places.{width_few}
 use Rattle.network.specs.Decode.{place_for, value_at, header_fault, pair_fault, placed_fault, end_fault, body_fault, fault, sheet_of, couplings_of, order_of, faultless, Stands}
-use Rattle.network.specs.Parts.{key_at}
+use Rattle.network.specs.Parts.{pair_key}
 use Rattle.network.specs.Fields.{field, is_in}
 use Rattle.network.specs.Refusals.{Fault, or_else, first_fault}
 use Rattle.network.specs.Sheets.{width, before, has_pair}
@@ -48,8 +48,8 @@ stands-pairs bs n m h =
     let h1 = or_else-none (first_fault (pair_fault bs n (width n)) m) (or_else (first_fault (placed_fault bs n (width n) (2 * m)) n) (end_fault bs (place_for (width n) (2 * m + n)))) body in
     each_none (pair_fault bs n (width n)) m h1.0
 
-key-next : (bs : List ℕ) (n m : ℕ) → Stands bs n m → (k : ℕ) → suc k < m → key_at bs (width n) k < key_at bs (width n) (suc k)
-unfolding key_at
+key-next : (bs : List ℕ) (n m : ℕ) → Stands bs n m → (k : ℕ) → suc k < m → pair_key bs (width n) k < pair_key bs (width n) (suc k)
+unfolding pair_key
 key-next bs n m h k lt =
     let w = width n in
     let says = pair-says bs n w (suc k) (stands-pairs bs n m h (suc k) lt) in
@@ -60,17 +60,17 @@ key-next bs n m h k lt =
     (λ b. before-key _ _ _ _ small (rw (ea, eb) at b))
     (or_cases (eqb (suc k) 0) _ says.2)
 
-pub key-less : (bs : List ℕ) (n m : ℕ) → Stands bs n m → (j k : ℕ) → j < k → k < m → key_at bs (width n) j < key_at bs (width n) k
+pub key-less : (bs : List ℕ) (n m : ℕ) → Stands bs n m → (j k : ℕ) → j < k → k < m → pair_key bs (width n) j < pair_key bs (width n) k
 key-less bs n m h j zero lt hk = absurd (omega arith)
 key-less bs n m h j (suc k) lt hk =
     let step = key-next bs n m h k hk in
     ⊎_elim (λ less. omega (arith, step, key-less bs n m h j k less (omega arith)))
-    (λ ge. let e : j ≡ k = omega arith in omega (arith, step, ap (key_at bs (width n)) e))
+    (λ ge. let e : j ≡ k = omega arith in omega (arith, step, ap (pair_key bs (width n)) e))
     (cases_lt j k)
 
-pub key-less-at : (bs : List ℕ) (n m w : ℕ) → w ≡ width n → Stands bs n m → (j k : ℕ) → j < k → k < m → key_at bs w j < key_at bs w k
+pub key-less-at : (bs : List ℕ) (n m w : ℕ) → w ≡ width n → Stands bs n m → (j k : ℕ) → j < k → k < m → pair_key bs w j < pair_key bs w k
 key-less-at bs n m w e h j k lt hk =
-    omega (arith, key-less bs n m h j k lt hk, ap (λ (x : ℕ). key_at bs x j) e, ap (λ (x : ℕ). key_at bs x k) e)
+    omega (arith, key-less bs n m h j k lt hk, ap (λ (x : ℕ). pair_key bs x j) e, ap (λ (x : ℕ). pair_key bs x k) e)
 
 -- ---- membership by places
 
@@ -96,16 +96,16 @@ pub count-is : (bs : List ℕ) (n m : ℕ) → length (sheet_of bs n m).coupling
 unfolding couplings_of order_of
 count-is bs n m = length-map-range_with_len _ 0 m
 
-pub has_key : (bs : List ℕ) (n m k a b : ℕ) → k < m → b < 512 → key_at bs (width n) k ≡ a * 512 + b → has_pair (sheet_of bs n m).couplings a b ≡ true
-unfolding key_at
+pub has_key : (bs : List ℕ) (n m k a b : ℕ) → k < m → b < 512 → pair_key bs (width n) k ≡ a * 512 + b → has_pair (sheet_of bs n m).couplings a b ≡ true
+unfolding pair_key
 has_key bs n m k a b h hb e =
     let small : value_at bs (width n) (2 * k + 1) < 512 = value-small bs (width n) (2 * k + 1) (width_few n).1 in
     has-at _ k a b (omega (arith, count-is bs n m))
     (ap (λ (p : ℕ × ℕ). p.0) (pair_is bs n m k h) ∙ omega arith)
     (ap (λ (p : ℕ × ℕ). p.1) (pair_is bs n m k h) ∙ omega arith)
 
-pub has-no-key : (bs : List ℕ) (n m a b : ℕ) → ((k : ℕ) → k < m → key_at bs (width n) k ≡ a * 512 + b → ⊥) → has_pair (sheet_of bs n m).couplings a b ≡ false
-unfolding key_at
+pub has-no-key : (bs : List ℕ) (n m a b : ℕ) → ((k : ℕ) → k < m → pair_key bs (width n) k ≡ a * 512 + b → ⊥) → has_pair (sheet_of bs n m).couplings a b ≡ false
+unfolding pair_key
 has-no-key bs n m a b f =
     has-none _ a b (λ k h p q.
     let hk : k < m = omega (arith, count-is bs n m) in

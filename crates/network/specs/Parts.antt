@@ -18,5 +18,5 @@ abbrev pub pair_of : List ℕ → ℕ → ℕ → ℕ → Result (ℕ × ℕ) Fa
 pair_of bs n w k = unless (pair_fault bs n w k) (value_at bs w (2 * k), value_at bs w (2 * k + 1))
 
 -- the coupling k as one number, which rises with k
-unfoldable pub key_at : List ℕ → ℕ → ℕ → ℕ
-key_at bs w k = value_at bs w (2 * k) * 512 + value_at bs w (2 * k + 1)
+unfoldable pub pair_key : List ℕ → ℕ → ℕ → ℕ
+pair_key bs w k = value_at bs w (2 * k) * 512 + value_at bs w (2 * k + 1)

@@ -10,7 +10,7 @@ use Rattle.plan_parts.specs.Reserves.{known, place_of_stations}
 use Rattle.plan_parts.proofs.Numbering.{cell_below}
 use Rattle.run_parts.specs.Kinds.{Kind}
 use Rattle.run_parts.specs.Square.{Square, pivot, pivotal, single, with_entry, beyond}
-use Rattle.run_parts.specs.Tables.{square_of, entry_at, Room, Within}
+use Rattle.run_parts.specs.Tables.{square_of, held_entry, Room, Within}
 use Rattle.run_parts.specs.Parts.{Pivoted}
 use Rattle.run_parts.specs.Outcomes.{roomy, checked_place_of, put_outcome, pivot_outcome, step_outcome}
 use Rattle.run_parts.specs.Laws.{AnswersAreThoseOfTheSquare}
@@ -42,20 +42,20 @@ module _ {E : Type 0} (F : Graph) (n : ℕ) (es : List E) (ms : List ℕ) (sq : 
       | inl z ↦ z
       | inr d ↦
           (let x = nth-some es p (omega (arith, cell_below F n i j p here, room.0)) in
-          let e : slice_get es p ≡ entry_at es ms p = simp (ne_eqb _ _ d) in
+          let e : slice_get es p ≡ held_entry es ms p = simp (ne_eqb _ _ d) in
           let w : Some x.0 ≡ None = sym x.1 ∙ e ∙ at i j p here ∙ none in
           let y : ◌≡◌ {A = ℕ} 0 1 = cc in absurd (omega arith))
     ];
     same = λ i j p e here some. elim (cases_eq (get_or ms p 0) 0) [
       | inl z ↦
-          (let x : None ≡ entry_at es ms p = simp (eq-eqb _ _ z) in
+          (let x : None ≡ held_entry es ms p = simp (eq-eqb _ _ z) in
           let w : None ≡ Some e = x ∙ at i j p here ∙ some in
           let y : ◌≡◌ {A = ℕ} 0 1 = cc in absurd (omega arith))
-      | inr d ↦ (let x : slice_get es p ≡ entry_at es ms p = simp (ne_eqb _ _ d) in x ∙ at i j p here ∙ some)
+      | inr d ↦ (let x : slice_get es p ≡ held_entry es ms p = simp (ne_eqb _ _ d) in x ∙ at i j p here ∙ some)
     ];
   }
     where
-      at : (i j p : ℕ) → cell F n i j ≡ Some p → entry_at es ms p ≡ sq i j
+      at : (i j p : ℕ) → cell F n i j ≡ Some p → held_entry es ms p ≡ sq i j
       at i j p here = sym (square-some F n i j es ms p here) ∙ h i j
 
 module _ {E : Type 0} (K : Kind E) (F : Graph) (n : ℕ) (xs : List ℕ) (closed : Closed F n) (es : List E) (ms : List ℕ) (room : Room F n es ms) (es' : List E) (ms' : List ℕ) (sq : Square E) (P : Graph) where

@@ -8,7 +8,7 @@ use Rattle.elimination.specs.Graphs.{Graph}
 use Rattle.plan_parts.specs.Layout.{in_column, cell, Closed}
 use Rattle.run_parts.specs.Kinds.{Kind}
 use Rattle.run_parts.specs.Square.{Square, met, part}
-use Rattle.run_parts.specs.Tables.{entry_at, entry_of, square_of, Room, Within}
+use Rattle.run_parts.specs.Tables.{held_entry, entry_of, square_of, Room, Within}
 use Rattle.run_parts.specs.Parts.{Kept}
 use Rattle.plan_parts.proofs.Numbering.{Spot, cell-some, cell-once, cell_below, some-cell}
 
@@ -72,12 +72,12 @@ nth-set-other (x ∷ xs) zero (suc j) v d = refl
 nth-set-other (x ∷ xs) (suc i) zero v d = refl
 nth-set-other (x ∷ xs) (suc i) (suc j) v d = nth-set-other xs i j v (λ e. d (ap suc e))
 
-at_same : {E : Type 0} (es : List E) (ms : List ℕ) (p m : ℕ) (v : E) → p < length es → p < length ms → m ≢ 0 → entry_at (set es p v) (set ms p m) p ≡ Some v
+at_same : {E : Type 0} (es : List E) (ms : List ℕ) (p m : ℕ) (v : E) → p < length es → p < length ms → m ≢ 0 → held_entry (set es p v) (set ms p m) p ≡ Some v
 at_same es ms p m v h g d =
     let e : eqb (get_or (set ms p m) p 0) 0 ≡ false = ne_eqb _ _ (λ z. d (sym (get_or-set_same ms p m 0 g) ∙ z)) in
     rw e (nth-set-same es p v h)
 
-at_other : {E : Type 0} (es : List E) (ms : List ℕ) (p q m : ℕ) (v : E) → q ≢ p → entry_at (set es p v) (set ms p m) q ≡ entry_at es ms q
+at_other : {E : Type 0} (es : List E) (ms : List ℕ) (p q m : ℕ) (v : E) → q ≢ p → held_entry (set es p v) (set ms p m) q ≡ held_entry es ms q
 at_other es ms p q m v d = rw (get_or-set_other ms p q m 0 d, nth-set-other es p q v d)
 
 pub set-square : {E : Type 0} (F : Graph) (n i j p m : ℕ) (es : List E) (ms : List ℕ) (v : E) → cell F n i j ≡ Some p → p < length es → p < length ms → m ≢ 0
@@ -161,7 +161,7 @@ held-cell {E} F n i j es ms x h = go (cell F n i j) refl
     go None e = let z : None ≡ Some x = sym (ap (entry_of es ms) e) ∙ h in let y : ◌≡◌ {A = ℕ} 0 1 = cc in absurd (omega arith)
     go (Some p) e = (p, e)
 
-pub square-some : {E : Type 0} (F : Graph) (n i j : ℕ) (es : List E) (ms : List ℕ) (p : ℕ) → cell F n i j ≡ Some p → square_of F n es ms i j ≡ entry_at es ms p
+pub square-some : {E : Type 0} (F : Graph) (n i j : ℕ) (es : List E) (ms : List ℕ) (p : ℕ) → cell F n i j ≡ Some p → square_of F n es ms i j ≡ held_entry es ms p
 unfolding square_of
 square-some F n i j es ms p h = ap (entry_of es ms) h
 

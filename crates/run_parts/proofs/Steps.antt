@@ -7,7 +7,7 @@ use Rattle.plan_parts.specs.Layout.{places, cell, Closed}
 use Rattle.plan_parts.specs.Reserves.{has_place}
 use Rattle.run_parts.specs.Kinds.{Kind}
 use Rattle.run_parts.specs.Square.{Square, taken, met, part, single, beyond}
-use Rattle.run_parts.specs.Tables.{entry_at, square_of, Room}
+use Rattle.run_parts.specs.Tables.{held_entry, square_of, Room}
 use Rattle.run_parts.specs.Parts.{Pivoted, in_one, in_up_to}
 use Rattle.plan_parts.proofs.Numbering.{cell_below, cell_out}
 use Rattle.run_parts.proofs.Parts.{part-on, part_off, part-like, part-more, met-no-left, met-no-right, set-square, kept_same, kept_more, kept_set, held-cell, closed-cell, square-some, square-none}
@@ -59,7 +59,7 @@ module _ {E : Type 0} (K : Kind E) (F : Graph) (n k : ℕ) where
   -- the write at one place
   pub written : (i j p : ℕ) (es : List E) (ms : List ℕ) (l q r : E) → Room F n es ms → cell F n i j ≡ Some p
       → square_of F n es ms i k ≡ Some l → square_of F n es ms k k ≡ Some q → square_of F n es ms j k ≡ Some r
-      → Pivoted K F n k (single i j) es ms (set es p (taken K (entry_at es ms p) l q r)) (set ms p (cond (eqb (get_or ms p 0) 0) 1 (get_or ms p 0)))
+      → Pivoted K F n k (single i j) es ms (set es p (taken K (held_entry es ms p) l q r)) (set ms p (cond (eqb (get_or ms p 0) 0) 1 (get_or ms p 0)))
   written i j p es ms l q r room here hl hq hr = record {
     square = λ a b. set-square F n i j p m es ms v here le lm some a b ∙ at a b;
     kept = kept_set (places F n) p m es ms v lt lm some keep one;
@@ -72,7 +72,7 @@ module _ {E : Type 0} (K : Kind E) (F : Graph) (n k : ℕ) where
       m = cond (eqb (get_or ms p 0) 0) 1 (get_or ms p 0)
 
       v : E
-      v = taken K (entry_at es ms p) l q r
+      v = taken K (held_entry es ms p) l q r
 
       lt : p < places F n
       lt = cell_below F n i j p here
@@ -98,7 +98,7 @@ module _ {E : Type 0} (K : Kind E) (F : Graph) (n k : ℕ) where
             (let w = and_parts (eqb a i) (eqb b j) t in
             let ea : a ≡ i = eqb-true a i w.0 in
             let eb : b ≡ j = eqb-true b j w.1 in
-            let o : S i j ≡ entry_at es ms p = square-some F n i j es ms p here in
+            let o : S i j ≡ held_entry es ms p = square-some F n i j es ms p here in
             let x : met K (S a b) (S a k) (S k k) (S b k) ≡ Some v = rw (ea, eb, hl, hq, hr, o) refl in
             simp t (sym (part-on K k (single i j) S a b t ∙ x)))
         | inr f ↦ simp f (sym (part_off K k (single i j) S a b f))
@@ -175,7 +175,7 @@ module _ {E : Type 0} (K : Kind E) (F : Graph) (n k : ℕ) where
       ])
 
   pub wrote : (i j p : ℕ) (es : List E) (ms : List ℕ) (es' : List E) (ms' : List ℕ) (l q r : E)
-      → es' ≡ set es p (taken K (entry_at es ms p) l q r) → ms' ≡ set ms p (cond (eqb (get_or ms p 0) 0) 1 (get_or ms p 0))
+      → es' ≡ set es p (taken K (held_entry es ms p) l q r) → ms' ≡ set ms p (cond (eqb (get_or ms p 0) 0) 1 (get_or ms p 0))
       → Room F n es ms → cell F n i j ≡ Some p
       → square_of F n es ms i k ≡ Some l → square_of F n es ms k k ≡ Some q → square_of F n es ms j k ≡ Some r
       → Pivoted K F n k (single i j) es ms es' ms'

@@ -7,7 +7,7 @@ use Rattle.elimination.specs.Graphs.{Graph}
 use Rattle.plan_parts.specs.Layout.{places, cell}
 use Rattle.plan_parts.proofs.Numbering.{cell_below, cell-all, cell-some, column-le}
 use Rattle.run_parts.specs.Square.{Square}
-use Rattle.run_parts.specs.Tables.{entry_at, square_of, Room, entry_over, mark_over, over_rows, over_columns, entries_over, marks_over}
+use Rattle.run_parts.specs.Tables.{held_entry, square_of, Room, entry_over, mark_over, over_rows, over_columns, entries_over, marks_over}
 use Rattle.run_parts.specs.Parts.{Kept}
 use Rattle.run_parts.proofs.Parts.{square-some, nth-some, nth-set-same, nth-set-other}
 
@@ -88,7 +88,7 @@ mark-value x m m' either some keep one = elim (cases_eq x 0) [
 
 -- tables before and after, of which the square S is what is held after
 module _ {E : Type 0} (F : Graph) (n : ℕ) (S : Square E) (es : List E) (ms : List ℕ) (es' : List E) (ms' : List ℕ) (room : Room F n es ms) (kept : Kept (places F n) es ms es' ms') (square : (i j : ℕ) → square_of F n es' ms' i j ≡ S i j) where
-  at_place : (i j p : ℕ) → cell F n i j ≡ Some p → entry_at es' ms' p ≡ S i j
+  at_place : (i j p : ℕ) → cell F n i j ≡ Some p → held_entry es' ms' p ≡ S i j
   at_place i j p here = sym (square-some F n i j es' ms' p here) ∙ square i j
 
   -- a place that is held after, by its row, its column and its entry
@@ -102,11 +102,11 @@ module _ {E : Type 0} (F : Graph) (n : ℕ) (S : Square E) (es : List E) (ms : L
   held_both : (i j p : ℕ) (e : E) → cell F n i j ≡ Some p → S i j ≡ Some e → (p < places F n) × (get_or ms' p 0 ≢ 0) × (slice_get es' p ≡ Some e)
   held_both i j p e here h = elim (cases_eq (get_or ms' p 0) 0) [
     | inl z ↦
-        (let w : entry_at es' ms' p ≡ None = simp (eq-eqb _ _ z) in
+        (let w : held_entry es' ms' p ≡ None = simp (eq-eqb _ _ z) in
         let x : None ≡ Some e = sym w ∙ at_place i j p here ∙ h in
         let y : ◌≡◌ {A = ℕ} 0 1 = cc in absurd (omega arith))
     | inr d ↦
-        (let w : entry_at es' ms' p ≡ slice_get es' p = simp (ne_eqb _ _ d) in
+        (let w : held_entry es' ms' p ≡ slice_get es' p = simp (ne_eqb _ _ d) in
         (cell_below F n i j p here, d, sym w ∙ at_place i j p here ∙ h))
   ]
 
@@ -126,7 +126,7 @@ module _ {E : Type 0} (F : Graph) (n : ℕ) (S : Square E) (es : List E) (ms : L
         | inl z ↦ inr (kept.empties p z, unmarked z)
         | inr d ↦
             (let x = nth-some es' p (omega (arith, cell_below F n i j p here, room.0, kept.entries)) in
-            let v : entry_at es' ms' p ≡ slice_get es' p = simp (ne_eqb _ _ d) in
+            let v : held_entry es' ms' p ≡ slice_get es' p = simp (ne_eqb _ _ d) in
             let w : Some x.0 ≡ None = sym x.1 ∙ sym v ∙ at_place i j p here ∙ h in
             let y : ◌≡◌ {A = ℕ} 0 1 = cc in absurd (omega arith))
       ]

@@ -6,13 +6,13 @@ use Rattle.plan_parts.specs.Layout.{places, cell}
 use Rattle.run_parts.specs.Square.{Square}
 
 -- what the place p holds
-abbrev pub entry_at : {E : Type 0} → List E → List ℕ → ℕ → Option E
-entry_at es ms p = cond (slice_index ms p == 0) None (slice_get es p)
+abbrev pub held_entry : {E : Type 0} → List E → List ℕ → ℕ → Option E
+held_entry es ms p = cond (slice_index ms p == 0) None (slice_get es p)
 
 -- where there is no place, nothing is held
 abbrev pub entry_of : {E : Type 0} → List E → List ℕ → Option ℕ → Option E
 entry_of es ms None = None
-entry_of es ms (Some p) = entry_at es ms p
+entry_of es ms (Some p) = held_entry es ms p
 
 -- a place lies within two tables of these lengths
 abbrev pub Within : ℕ → ℕ → Option ℕ → Type 0

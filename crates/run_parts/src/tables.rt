@@ -7,7 +7,7 @@ ghost use Rattle.run_parts.specs.Kinds.{kind};
 ghost use Rattle.run_parts.specs.Outcomes.{checked_place_of, roomy};
 ghost use Rattle.run_parts.specs.Square.{taken};
 ghost use Rattle.run_parts.specs.Places.{places_in};
-ghost use Rattle.run_parts.specs.Tables.{Room, Within, entry_at, entry_of, square_of, zeroed};
+ghost use Rattle.run_parts.specs.Tables.{Room, Within, held_entry, entry_of, square_of, zeroed};
 
 use crate::kinds::Entry;
 use network::Refusal;
@@ -78,7 +78,7 @@ pub(crate) fn take<E: Entry>(
 )
     requires entry { p < length entries.old }
     requires mark { p < length marks.old }
-    ensures entries { entries.new ≡ slice_set entries.old p (taken (kind E.Entry.usable E.Entry.first E.Entry.more) (entry_at entries.old marks.old p) left pivot right) }
+    ensures entries { entries.new ≡ slice_set entries.old p (taken (kind E.Entry.usable E.Entry.first E.Entry.more) (held_entry entries.old marks.old p) left pivot right) }
     ensures marks { marks.new ≡ slice_set marks.old p (if nat_eq (slice_index marks.old p) 0 then 1 else slice_index marks.old p) }
 {
     if marks[p] == 0 {

@@ -2,7 +2,7 @@
 //! Couplings are found in the packed fields themselves, by binary search.
 ghost use Rattle.std.specs.Prelude.{◌≡◌, ◌*◌, ◌^◌, ◌<◌, ◌≤◌};
 ghost use Rattle.network.specs.Decode.{Stands, sheet_of};
-ghost use Rattle.network.specs.Parts.{key_at};
+ghost use Rattle.network.specs.Parts.{pair_key};
 ghost use Rattle.network.specs.SheetMeaning.{standing-lawful};
 ghost use Rattle.network.specs.SheetView.{sheet_in};
 ghost use Rattle.network.specs.Sheets.{has_pair, sheet_net};
@@ -15,7 +15,7 @@ use crate::sheets::checks::{place_of, width_of};
 // The coupling `k` as one number, which rises with `k`.
 fn key_at(sheet: &[u8], w: usize, k: u32) -> u32
     requires { (w ≤ 9) × (k < 2 ^ 17) }
-    ensures { result ≡ key_at sheet.now w k }
+    ensures { result ≡ pair_key sheet.now w k }
 {
     let at = place_of(w, 2 * k);
     field_of(sheet, at, w) * 512 + field_of(sheet, at + w, w)

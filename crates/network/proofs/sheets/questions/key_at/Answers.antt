@@ -2,7 +2,7 @@ use Rattle.std.proofs.Common.{◌≡◌, ℕ, ◌+◌, ◌*◌, ◌^◌, ◌≤�
 use Rattle.network.specs.Fields.{field}
 use Rattle.network.proofs.Fields.{field_lt}
 use Rattle.network.specs.Decode.{value_at, place_for}
-use Rattle.network.specs.Parts.{key_at}
+use Rattle.network.specs.Parts.{pair_key}
 use Rattle.network.proofs.Places.{place-next}
 use Rattle.network.proofs.sheets.questions.key_at.Goals as goal
 
@@ -19,7 +19,7 @@ overflow_add-result c =
     omega (arith, field_lt c.args.sheet.now c.place_of-at.result c.args.w, field_lt c.args.sheet.now (c.place_of-at.result + c.args.w) c.args.w)
 
 pub returns : goal.returns
-unfolding key_at value_at
+unfolding pair_key value_at
 returns c =
     let bs = c.args.sheet.now in
     let w = c.args.w in
