@@ -1,9 +1,10 @@
 -- The list of all orders, and the test of minimal orders over it.
 use Rattle.std.proofs.Common.{◌≡◌, ℕ, zero, suc, ◌<◌, Bool, true, false, not, ◌||◌, ◌⊎◌, List, [], ◌∷◌, ◌++◌, map, filter, sym, refl, ap, ◌∙◌, subst, inl, inr, ⊎_elim, arith}
 use Rattle.std.proofs.lemmas.Bool.{both_ways, cases_Bool, cases_eq, and_parts, and_from, or_left, or_right, or_cases, not-true, not_from_false}
-use Rattle.elimination.specs.AllOrders.{Listed, every_order, inserts, inserts_each, minimal, orders, within}
+use Rattle.std.specs.List.{list_all}
+use Rattle.elimination.specs.AllOrders.{Listed, inserts, inserts_each, minimal, orders, within}
 use Rattle.elimination.specs.Elimination.{Minimal, fill}
-use Rattle.elimination.specs.Graphs.{Graph, Simple, Sub, every}
+use Rattle.elimination.specs.Graphs.{Graph, Simple, Sub}
 use Rattle.elimination.specs.Orders.{In, Distinct, Order, up_to}
 use Rattle.elimination.specs.Theorems.{MinimalByTest, OrdersAreListed}
 use Rattle.elimination.proofs.Listing.{kept_same, order-without}
@@ -117,18 +118,18 @@ orders-are-listed n xs = (order-listed n xs, listed-order n xs)
 
 -- ---- the test of minimal orders
 
-every-listed : (p : List ℕ → Bool) (xss : List (List ℕ)) → every_order p xss ≡ true → (xs : List ℕ) → Listed xs xss → p xs ≡ true
+every-listed : (p : List ℕ → Bool) (xss : List (List ℕ)) → list_all p xss ≡ true → (xs : List ℕ) → Listed xs xss → p xs ≡ true
 every-listed p [] e xs i = absurd i
-every-listed p (ys ∷ yss) e xs (inl q) = ap p q ∙ (and_parts (p ys) (every_order p yss) e).0
-every-listed p (ys ∷ yss) e xs (inr m) = every-listed p yss (and_parts (p ys) (every_order p yss) e).1 xs m
+every-listed p (ys ∷ yss) e xs (inl q) = ap p q ∙ (and_parts (p ys) (list_all p yss) e).0
+every-listed p (ys ∷ yss) e xs (inr m) = every-listed p yss (and_parts (p ys) (list_all p yss) e).1 xs m
 
-listed-every : (p : List ℕ → Bool) (xss : List (List ℕ)) → ((xs : List ℕ) → Listed xs xss → p xs ≡ true) → every_order p xss ≡ true
+listed-every : (p : List ℕ → Bool) (xss : List (List ℕ)) → ((xs : List ℕ) → Listed xs xss → p xs ≡ true) → list_all p xss ≡ true
 listed-every p [] f = refl
-listed-every p (ys ∷ yss) f = and_from (p ys) (every_order p yss) (f ys (inl refl)) (listed-every p yss (λ xs i. f xs (inr i)))
+listed-every p (ys ∷ yss) f = and_from (p ys) (list_all p yss) (f ys (inl refl)) (listed-every p yss (λ xs i. f xs (inr i)))
 
 module _ (n : ℕ) (F G : Graph) where
   within-to : Sub F G → within n F G ≡ true
-  within-to s = in-every (λ a. every (λ b. not (F a b) || G a b) (up_to n)) (up_to n) (λ a _. in-every (λ b. not (F a b) || G a b) (up_to n) (λ b _. here a b (F a b) refl))
+  within-to s = in-every (λ a. list_all (λ b. not (F a b) || G a b) (up_to n)) (up_to n) (λ a _. in-every (λ b. not (F a b) || G a b) (up_to n) (λ b _. here a b (F a b) refl))
     where
       here : (a b : ℕ) (f : Bool) → F a b ≡ f → (not f || G a b) ≡ true
       here a b true e = s a b e
@@ -138,7 +139,7 @@ module _ (n : ℕ) (F G : Graph) where
   within-from below e a b h =
       let l = below a b h in
       ⊎_elim (λ (t : not (F a b) ≡ true). absurd (both_ways (F a b) (not-true (F a b) t) h)) (λ (t : G a b ≡ true). t)
-      (or_cases (not (F a b)) (G a b) (every_in (λ b. not (F a b) || G a b) (up_to n) (every_in (λ a. every (λ b. not (F a b) || G a b) (up_to n)) (up_to n) e a (in-up_to n a l.0)) b (in-up_to n b l.1)))
+      (or_cases (not (F a b)) (G a b) (every_in (λ b. not (F a b) || G a b) (up_to n) (every_in (λ a. list_all (λ b. not (F a b) || G a b) (up_to n)) (up_to n) e a (in-up_to n a l.0)) b (in-up_to n b l.1)))
 
 fill-below : (n : ℕ) (C : Graph) → Simple n C → (xs : List ℕ) → Order n xs → (a b : ℕ) → fill C xs a b ≡ true → (a < n) × (b < n)
 fill-below n C s xs o a b h = (filled-simple n C s xs o).below a b (fill-parts C xs a b h).0

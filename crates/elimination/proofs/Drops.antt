@@ -1,18 +1,18 @@
 -- A spare pair can go, and which pairs need no second look.
-use Rattle.std.proofs.Common.{◌≡◌, ℕ, zero, suc, ◌+◌, ◌*◌, ◌/◌, ◌%◌, ◌<◌, ◌≤◌, Bool, true, false, cond, ◌≢◌, List, length, set, sym, refl, ap, ◌∙◌, subst, ⊎_elim, arith, length-set}
+use Rattle.std.proofs.Common.{◌≡◌, ℕ, zero, suc, ◌+◌, ◌*◌, ◌/◌, ◌%◌, ◌<◌, ◌≤◌, Bool, true, false, cond, ◌≢◌, ◌⊎◌, List, [], ◌∷◌, ◌++◌, length, set, sym, refl, ap, ◌∙◌, subst, inl, inr, ⊎_elim, arith, length-set}
+use mathlib.Core.Path.{fun_ext}
 use Rattle.std.proofs.lemmas.List.{get_or-set_same, get_or-set_other}
 use Rattle.std.proofs.lemmas.Bool.Decides.{nat_tests}
-use Rattle.std.proofs.lemmas.Bool.{both_ways, cases_eq, cases_lt}
+use Rattle.std.proofs.lemmas.Bool.{both_ways, cases_Bool, cases_eq}
 use Rattle.network.specs.Bits.{count_to}
-use Rattle.elimination.specs.Dropping.{Looked, LookedTo, Lost, Ready, Tight, marked, weight}
-use Rattle.elimination.specs.Graphs.{Graph, Simple, Sub, spare, without}
-use Rattle.elimination.proofs.Relations.{Symmetric, SpareIn, spare-from, spare-to}
+use Rattle.elimination.specs.Dropping.{Looked, LookedApart, Lost, Ready, Tight, marked, weight}
+use Rattle.elimination.specs.Graphs.{Below, Graph, Simple, Sub, spare, without}
+use Rattle.elimination.specs.Orders.{In}
+use Rattle.elimination.proofs.Members.{in-member}
+use Rattle.elimination.proofs.Relations.{Symmetric, SpareIn, in_parts, spare-from, spare-to}
 use Rattle.elimination.proofs.Removal.{without_sub, without-symmetric, without-irreflexive}
 use Rattle.elimination.proofs.Statements.{spare-pairs-can-go}
-use Rattle.elimination.proofs.Walks.{Gap}
-
-abbrev pub Below : Graph → Type 0
-Below G = (a b : ℕ) → G a b ≡ true → (a < 512) × (b < 512)
+use Rattle.elimination.proofs.Walks.{Walked}
 
 -- ---- a pair goes
 
@@ -22,25 +22,40 @@ without-kept C G u v a b h k p q = other G u v a b h (λ i j. both_ways (C u v) 
     other : (G : Graph) (u v a b : ℕ) → G a b ≡ true → (a ≡ u → b ≡ v → ⊥) → (a ≡ v → b ≡ u → ⊥) → without G u v a b ≡ true
     other G u v a b h p q = grind (arith, nat_tests)
 
-pub without_gone : (G : Graph) (u v : ℕ) → without G u v u v ≡ false
+without_gone : (G : Graph) (u v : ℕ) → without G u v u v ≡ false
 without_gone G u v = grind (arith, nat_tests)
 
 without-apart : (G : Graph) (u v a b : ℕ) → a ≢ u → a ≢ v → without G u v a b ≡ G a b
 without-apart G u v a b p q = grind (arith, nat_tests)
 
-pub ready-without : (n : ℕ) (C G : Graph) (u v : ℕ) → Symmetric C → Ready n C G → G u v ≡ true → C u v ≡ false → SpareIn G u v → Ready n C (without G u v)
-ready-without n C G u v even r h k s =
-    record {
-      simple = record {
-        symmetric = without-symmetric G u v r.simple.symmetric;
-        irreflexive = without-irreflexive G u v r.simple.irreflexive;
-        below = λ a b g. r.simple.below a b (without_sub G u v a b g);
-      };
-      perfect = spare-pairs-can-go n G r.simple r.perfect u v h (spare-to n G u v s);
-      holds = λ a b q. without-kept C G u v a b (r.holds a b q) q k (sym (even u v) ∙ k);
-    }
+-- a pair that is not there
+without-absent : (G : Graph) (u v : ℕ) → Symmetric G → G u v ≡ false → G ≡ without G u v
+without-absent G u v sy e = fun_ext (λ a. fun_ext (λ b. at a b (cases_eq a u) (cases_eq b v) (cases_eq a v) (cases_eq b u)))
+  where
+    at : (a b : ℕ) → (a ≡ u) ⊎ (a ≢ u) → (b ≡ v) ⊎ (b ≢ v) → (a ≡ v) ⊎ (a ≢ v) → (b ≡ u) ⊎ (b ≢ u) → G a b ≡ without G u v a b
+    at a b (inl p) (inl q) _ _ = let z : G a b ≡ false = ap (λ (x : ℕ). G x b) p ∙ ap (G u) q ∙ e in grind (arith, nat_tests)
+    at a b _ _ (inl p) (inl q) = let z : G a b ≡ false = sy a b ∙ ap (λ (x : ℕ). G x a) q ∙ ap (G u) p ∙ e in grind (arith, nat_tests)
+    at a b (inr p) _ (inr q) _ = grind (arith, nat_tests)
+    at a b (inr p) _ _ (inr q) = grind (arith, nat_tests)
+    at a b _ (inr p) (inr q) _ = grind (arith, nat_tests)
+    at a b _ (inr p) _ (inr q) = grind (arith, nat_tests)
 
-pub sub-without : (G H : Graph) (u v : ℕ) → Sub H G → Sub (without H u v) G
+ready-without : (n : ℕ) (C G : Graph) (u v : ℕ) → Symmetric C → Ready n C G → C u v ≡ false → SpareIn G u v → Ready n C (without G u v)
+ready-without n C G u v even r k s = ⊎_elim there (λ (e : G u v ≡ false). subst (λ (K : Graph). Ready n C K) (without-absent G u v r.simple.symmetric e) r) (cases_Bool (G u v))
+  where
+    there : G u v ≡ true → Ready n C (without G u v)
+    there h =
+        record {
+          simple = record {
+            symmetric = without-symmetric G u v r.simple.symmetric;
+            irreflexive = without-irreflexive G u v r.simple.irreflexive;
+            below = λ a b g. r.simple.below a b (without_sub G u v a b g);
+          };
+          perfect = spare-pairs-can-go n G r.simple r.perfect u v h (spare-to n G u v s);
+          holds = λ a b q. without-kept C G u v a b (r.holds a b q) q k (sym (even u v) ∙ k);
+        }
+
+sub-without : (G H : Graph) (u v : ℕ) → Sub H G → Sub (without H u v) G
 sub-without G H u v s a b h = s a b (without_sub H u v a b h)
 
 spare-swap : (G : Graph) (u v : ℕ) → SpareIn G u v → SpareIn G v u
@@ -77,92 +92,94 @@ unmarked again u v a l hu hv e =
     back : (a ≡ v → ⊥) → marked (set again u true) a ≡ false
     back nv = sym (get_or-set_other (set again u true) v a true false nv) ∙ e
 
-module _ (C G : Graph) (u : ℕ) where
-  pub looked-drop : (again : List Bool) (from v : ℕ) → Below G → length again ≡ 512 → u < 512 → v < 512 → LookedTo C G again u from → LookedTo C (without G u v) (set (set again u true) v true) u (v + 1)
-  looked-drop again from v below l hu hv f a b _ _ h k ma mb s =
+-- no pair outside C is spare whose two rows are both unmarked, but pairs of u with stations that are not done
+abbrev pub LookedTo : Graph → Graph → List Bool → ℕ → List ℕ → Type 0
+LookedTo C G again u done = (a b : ℕ) → (a ≡ u → In b done) → (b ≡ u → In a done)
+    → G a b ≡ true → C a b ≡ false → marked again a ≡ false → marked again b ≡ false → spare 512 G a b ≢ true
+
+module _ (C G : Graph) (u : ℕ) (again : List Bool) (done : List ℕ) where
+  pub looked-apart : LookedApart C G again u → LookedTo C G again u []
+  looked-apart f a b p q = f a b p q
+
+  looked-drop : (v : ℕ) → Below G 512 → length again ≡ 512 → u < 512 → v < 512 → LookedTo C G again u done → LookedTo C (without G u v) (set (set again u true) v true) u (done ++ v ∷ [])
+  looked-drop v below l hu hv f a b _ _ h k ma mb s =
       let p = unmarked again u v a l hu hv ma in
       let q = unmarked again u v b l hu hv mb in
       f a b (λ i. absurd (p.0 i)) (λ i. absurd (q.0 i)) (without_sub G u v a b h) k p.2 q.2
       (spare-to 512 G a b (spare-before G u v a b p.0 p.1 q.0 q.1 (spare-from 512 (without G u v) a b (λ x y g. below x y (without_sub G u v x y g)) s)))
 
-  pub looked-keep : (again : List Bool) (from v : ℕ) → Below G → Symmetric G → Symmetric C → Gap G u from v → (C u v ≡ false → spare 512 G u v ≡ true → ⊥) → LookedTo C G again u from → LookedTo C G again u (v + 1)
-  looked-keep again from v below sy even gap here f a b p q h k ma mb s = ⊎_elim row (λ (na : a ≡ u → ⊥). ⊎_elim (column na) (λ (nb : b ≡ u → ⊥). f a b (λ i. absurd (na i)) (λ i. absurd (nb i)) h k ma mb s) (cases_eq b u)) (cases_eq a u)
+  looked-keep : (v : ℕ) → Below G 512 → Symmetric G → Symmetric C → (C u v ≡ false → spare 512 G u v ≡ true → ⊥) → LookedTo C G again u done → LookedTo C G again u (done ++ v ∷ [])
+  looked-keep v below sy even here f a b p q h k ma mb s = ⊎_elim row (λ (na : a ≡ u → ⊥). ⊎_elim (column na) (λ (nb : b ≡ u → ⊥). f a b (λ i. absurd (na i)) (λ i. absurd (nb i)) h k ma mb s) (cases_eq b u)) (cases_eq a u)
     where
       -- the pair u x
-      at : (x : ℕ) → x < v + 1 → G u x ≡ true → C u x ≡ false → SpareIn G u x → (x < from → ⊥) → ⊥
-      at x lt g c t nf =
-          ⊎_elim
-          (λ (i : x ≡ v). here (ap (C u) (sym i) ∙ c) (ap (spare 512 G u) (sym i) ∙ spare-to 512 G u x t))
-          (λ (ni : x ≡ v → ⊥). ⊎_elim nf (λ (ge : from ≤ x). both_ways (G u x) (gap x ge (omega arith)) g) (cases_lt x from))
-          (cases_eq x v)
+      at : (x : ℕ) → In x (done ++ v ∷ []) → C u x ≡ false → SpareIn G u x → (In x done → ⊥) → ⊥
+      at x m c t nf =
+          ⊎_elim nf
+          (λ (i : In x (v ∷ [])). ⊎_elim (λ (e : x ≡ v). here (ap (C u) (sym e) ∙ c) (ap (spare 512 G u) (sym e) ∙ spare-to 512 G u x t)) (λ (no : ⊥). no) i)
+          (in_parts x done (v ∷ []) m)
 
       row : a ≡ u → ⊥
       row i =
           let t : SpareIn G u b = subst (λ (x : ℕ). SpareIn G x b) i (spare-from 512 G a b below s) in
-          at b (p i) (sym (ap (λ (x : ℕ). G x b) i) ∙ h) (sym (ap (λ (x : ℕ). C x b) i) ∙ k) t
-          (λ lt. f a b (λ _. lt) (λ j. (let e : b ≡ u = j in let eb : a ≡ b = i ∙ sym j in omega arith)) h k ma mb s)
+          at b (p i) (sym (ap (λ (x : ℕ). C x b) i) ∙ k) t
+          (λ m. f a b (λ _. m) (λ j. subst (λ (x : ℕ). In x done) (j ∙ sym i) m) h k ma mb s)
 
       column : (a ≡ u → ⊥) → b ≡ u → ⊥
       column na j =
           let t : SpareIn G u a = spare-swap G a u (subst (λ (x : ℕ). SpareIn G a x) j (spare-from 512 G a b below s)) in
-          at a (q j) (sy u a ∙ sym (ap (G a) j) ∙ h) (even u a ∙ sym (ap (C a) j) ∙ k) t
-          (λ lt. f a b (λ i. absurd (na i)) (λ _. lt) h k ma mb s)
+          at a (q j) (even u a ∙ sym (ap (C a) j) ∙ k) t
+          (λ m. f a b (λ i. absurd (na i)) (λ _. m) h k ma mb s)
 
-  pub looked-end : (again : List Bool) (from : ℕ) → Below G → Symmetric G → Gap G u from 512 → LookedTo C G again u from → Looked C G again
-  looked-end again from below sy gap f a b h k ma mb s = f a b (λ i. row i) (λ j. column j) h k ma mb s
+  -- where every neighbour of u is done
+  pub looked-end : (E : Graph) → Symmetric E → Sub G E → Walked E u done → LookedTo C G again u done → Looked C G again
+  looked-end E sy sub w f a b h k ma mb s = f a b (λ i. is b (sym (ap (λ (x : ℕ). E x b) i) ∙ sub a b h)) (λ j. is a (sy u a ∙ sym (ap (E a) j) ∙ sub a b h)) h k ma mb s
     where
-      row : a ≡ u → b < from
-      row i = ⊎_elim (λ (lt : b < from). lt) (λ (ge : from ≤ b). absurd (both_ways (G u b) (gap b ge (below a b h).1) (sym (ap (λ (x : ℕ). G x b) i) ∙ h))) (cases_lt b from)
-
-      column : b ≡ u → a < from
-      column j = ⊎_elim (λ (lt : a < from). lt) (λ (ge : from ≤ a). absurd (both_ways (G u a) (gap a ge (below a b h).0) (sy u a ∙ sym (ap (G a) j) ∙ h))) (cases_lt a from)
+      is : (x : ℕ) → E u x ≡ true → In x done
+      is x e = in-member x done (w x ∙ e)
 
 -- ---- one row
 
--- what holds where the pairs of u below `from` had their turn, in a row that began with the graph E and the marks `began`
-abbrev pub RowTurn : Graph → Graph → List Bool → ℕ → ℕ → Graph → List Bool → Bool → Type 0
-RowTurn C E began u from G again dropped =
+-- what holds where the pairs of u with the stations that are done had their turn, in a row that began with the graph E and the marks `began`
+abbrev pub RowTurn : Graph → Graph → List Bool → ℕ → List ℕ → Graph → List Bool → Bool → Type 0
+RowTurn C E began u done G again dropped =
     ((n : ℕ) → Ready n C E → Ready n C G)
     × Sub G E
-    × LookedTo C G again u from
+    × LookedTo C G again u done
     × (dropped ≡ true → Lost E G)
     × (dropped ≡ false → again ≡ began)
     × (length again ≡ 512)
-    × (from ≤ 512)
 
-module _ (C E : Graph) (began : List Bool) (u from v : ℕ) (G G' : Graph) (again again' : List Bool) (d d' : Bool)
-    (even : Symmetric C) (sy : Symmetric G) (below : Below G) (hu : u < 512) (hv : v < 512) (t : RowTurn C E began u from G again d) where
-  pub row_drop : G u v ≡ true → C u v ≡ false → spare 512 G u v ≡ true → G' ≡ without G u v → again' ≡ set (set again u true) v true → d' ≡ true → RowTurn C E began u (v + 1) G' again' d'
+module _ (C E : Graph) (began : List Bool) (u : ℕ) (done : List ℕ) (v : ℕ) (G G' : Graph) (again again' : List Bool) (d d' : Bool)
+    (even : Symmetric C) (sy : Symmetric G) (below : Below G 512) (hu : u < 512) (hv : v < 512) (t : RowTurn C E began u done G again d) where
+  pub row_drop : E u v ≡ true → C u v ≡ false → spare 512 G u v ≡ true → G' ≡ without G u v → again' ≡ set (set again u true) v true → d' ≡ true → RowTurn C E began u (done ++ v ∷ []) G' again' d'
   row_drop h k s eg ea ed =
-      let P : Graph → Type 0 = λ K. RowTurn C E began u (v + 1) K again' d' in
-      let Q : List Bool → Type 0 = λ l. RowTurn C E began u (v + 1) (without G u v) l d' in
+      let P : Graph → Type 0 = λ K. RowTurn C E began u (done ++ v ∷ []) K again' d' in
+      let Q : List Bool → Type 0 = λ l. RowTurn C E began u (done ++ v ∷ []) (without G u v) l d' in
       subst P (sym eg) (subst Q (sym ea) (
-        (λ n r. ready-without n C G u v even (t.0 n r) h k (spare-from 512 G u v below s)),
+        (λ n r. ready-without n C G u v even (t.0 n r) k (spare-from 512 G u v below s)),
         sub-without E G u v t.1,
-        looked-drop C G u again from v below t.5 hu hv t.2,
-        (λ _. (u, v, t.1 u v h, without_gone G u v, hu, hv)),
+        looked-drop C G u again done v below t.5 hu hv t.2,
+        (λ _. (u, v, h, without_gone G u v, hu, hv)),
         (λ g. absurd (both_ways d' g ed)),
         simp (length-set, length-set) t.5,
-        omega arith,
       ))
 
-  pub row_keep : Gap G u from v → (C u v ≡ false → spare 512 G u v ≡ true → ⊥) → G' ≡ G → again' ≡ again → d' ≡ d → RowTurn C E began u (v + 1) G' again' d'
-  row_keep gap safe eg ea ed =
-      let P : Graph → Type 0 = λ K. RowTurn C E began u (v + 1) K again' d' in
-      let Q : List Bool → Type 0 = λ l. RowTurn C E began u (v + 1) G l d' in
+  pub row_keep : (C u v ≡ false → spare 512 G u v ≡ true → ⊥) → G' ≡ G → again' ≡ again → d' ≡ d → RowTurn C E began u (done ++ v ∷ []) G' again' d'
+  row_keep safe eg ea ed =
+      let P : Graph → Type 0 = λ K. RowTurn C E began u (done ++ v ∷ []) K again' d' in
+      let Q : List Bool → Type 0 = λ l. RowTurn C E began u (done ++ v ∷ []) G l d' in
       subst P (sym eg) (subst Q (sym ea) (
         t.0,
         t.1,
-        looked-keep C G u again from v below sy even gap safe t.2,
+        looked-keep C G u again done v below sy even safe t.2,
         (λ g. t.3 (sym ed ∙ g)),
         (λ g. t.4 (sym ed ∙ g)),
         t.5,
-        omega arith,
       ))
 
 -- ---- one round
 
-pub looked-start : (C G : Graph) (again : List Bool) → Below G → ((a : ℕ) → a < 512 → marked again a ≡ true) → Looked C G again
+pub looked-start : (C G : Graph) (again : List Bool) → Below G 512 → ((a : ℕ) → a < 512 → marked again a ≡ true) → Looked C G again
 looked-start C G again below m a b h k ma mb s = both_ways (marked again a) ma (m a (below a b h).0)
 
 -- where no row below n is marked, no fill pair is spare

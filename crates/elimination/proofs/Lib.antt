@@ -1,3 +1,4 @@
+pub mod RangeSearch
 pub mod Relations
 pub mod Members
 pub mod EndVertex
@@ -11,9 +12,11 @@ pub mod Rows
 pub mod RowTests
 pub mod Walks
 pub mod Listing
+pub mod MemberWalks
 pub mod Leaving
 pub mod Afterwards
 pub mod Drops
 pub mod Peel
 pub mod Tightening
+pub mod Eliminations
 pub mod Arrangements

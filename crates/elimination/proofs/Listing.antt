@@ -1,5 +1,6 @@
 -- Lists as orders: lengths, positions, and the check that tells their faults.
 use Rattle.std.proofs.Common.{◌≡◌, ℕ, zero, suc, ◌+◌, ◌<◌, ◌≤◌, true, false, not, ◌&&◌, eqb, ltb, leb, ◌≢◌, List, [], ◌∷◌, ◌++◌, length, get_or, take, is_some, Some, None, filter, Option, sym, refl, ap, ◌∙◌, subst, inl, inr, ⊎_elim, arith, get_or-take}
+use Rattle.std.proofs.lemmas.List.{take_all, take_more}
 use Rattle.std.proofs.lemmas.Bool.{both_ways, cases_Bool, cases_eq, cases_order, eq-eqb, eqb-true, ne_eqb, lt-ltb, ltb-true, le-leb, leb-true, and_parts, and_from, not-true, not_from_false, cond-true, cond-false}
 use Rattle.network.specs.Refusals.{first_fault, refuse}
 use Rattle.network.specs.Orders.{order_fault, station_fault, among}
@@ -176,14 +177,20 @@ distinct-up_to (suc n) = distinct_snoc (up_to n) n (distinct-up_to n) (λ i. let
 pub up_to-order : (n : ℕ) → Order n (up_to n)
 up_to-order n = record { once = distinct-up_to n; all = in-up_to n; only = up_to-in n }
 
+-- places that hold their own numbers are the stations, rising
+pub up_to-places : (xs : List ℕ) (n : ℕ) → n ≤ length xs → ((j : ℕ) → j < n → get_or xs j 0 ≡ j) → take n xs ≡ up_to n
+up_to-places xs zero h f = refl
+up_to-places xs (suc n) h f =
+    let e : n + 1 ≡ suc n = omega arith in
+    sym (ap (λ (m : ℕ). take m xs) e) ∙ take_more xs n 0 (omega arith)
+    ∙ ap (λ (ys : List ℕ). ys ++ (get_or xs n 0 ∷ [])) (up_to-places xs n (omega arith) (λ j l. f j (omega arith)))
+    ∙ ap (λ (a : ℕ). up_to n ++ (a ∷ [])) (f n (omega arith))
+
 -- ---- positions
 
 pub none_from : {X : Type 0} (o : Option X) → is_some o ≡ false → o ≡ None
 none_from None e = refl
 none_from (Some x) e = absurd (both_ways true e refl)
-
-pub named-from : (size : ℕ) (stations : List ℕ) → size ≤ 512 → Order size (take size stations) → Named size stations
-named-from size stations few o = ap is_some (order-fault (take size stations) size few o)
 
 module _ (size : ℕ) (stations : List ℕ) (few : size ≤ length stations) (named : Named size stations) where
   pub named-order : Order size (take size stations)
@@ -223,6 +230,14 @@ module _ (size : ℕ) (stations : List ℕ) (few : size ≤ length stations) (na
       let lt : k < length (take size stations) = omega (arith, t.0) in
       sym (ap (position_of (take size stations)) (sym (get_or-take size stations k 0 t.0 ∙ t.1)) ∙ position_of_station (take size stations) k named-order.once lt)
 
+-- a list that passes the check names its own stations
+pub list-named : (xs : List ℕ) → order_fault xs (length xs) ≡ None → Named (length xs) xs
+list-named xs f = ap (λ (ys : List ℕ). is_some (order_fault ys (length xs))) (take_all (length xs) xs (omega arith)) ∙ ap is_some f
+
+-- a list that passes the check passes it with its own length
+pub fault-own : (xs : List ℕ) (n : ℕ) → order_fault xs n ≡ None → order_fault xs (length xs) ≡ None
+fault-own xs n f = ap (order_fault xs) (fault-parts xs n f).0 ∙ f
+
 -- ---- the order type
 
 pub order-of : (order : EliminationOrder) → Order order.size (listed order)
@@ -230,6 +245,10 @@ order-of order = fault-order (listed order) order.size (none_from (order_fault (
 
 pub listed-length : (order : EliminationOrder) → length (listed order) ≡ order.size
 listed-length order = order-length order.size (listed order) (order-of order)
+
+-- each station of an order is below its size
+pub listed_small : (order : EliminationOrder) (k : ℕ) → k < length (listed order) → get_or (listed order) k 0 < order.size
+listed_small order k h = (order-of order).only _ (get_or-in (listed order) k h)
 
 pub order-sized : (order : EliminationOrder) (n : ℕ) → order.size ≡ n → Order n (listed order)
 order-sized order n e = subst (λ (m : ℕ). Order m (listed order)) e (order-of order)

@@ -1,5 +1,5 @@
 -- Members of a list, a test for them, and what a filter keeps.
-use Rattle.std.proofs.Common.{◌≡◌, ℕ, ◌<◌, ◌≤◌, Bool, true, false, cond, not, eqb, ◌≢◌, List, [], ◌∷◌, length, filter, sym, refl, ap, ◌∙◌, inl, inr, ⊎_elim, arith}
+use Rattle.std.proofs.Common.{◌≡◌, ℕ, ◌<◌, ◌≤◌, Bool, true, false, cond, not, ◌||◌, eqb, ◌≢◌, List, [], ◌∷◌, ◌++◌, length, filter, sym, refl, ap, ◌∙◌, inl, inr, ⊎_elim, arith}
 use Rattle.std.proofs.lemmas.Bool.{both_ways, false≢true, eqb-true, eq-eqb, or_cases, or_left, or_right}
 use Rattle.std.proofs.lemmas.Bool.Decides.{nat_tests}
 use Rattle.elimination.proofs.Relations.{Simplicial, Closed}
@@ -14,6 +14,10 @@ pub member-in : (a : ℕ) (xs : List ℕ) → In a xs → member a xs ≡ true
 member-in a [] i = absurd i
 member-in a (x ∷ xs) (inl q) = or_left (eqb a x) (member a xs) (eq-eqb a x q)
 member-in a (x ∷ xs) (inr m) = or_right (eqb a x) (member a xs) (member-in a xs m)
+
+pub member_more : (a x : ℕ) (xs : List ℕ) → member a (xs ++ x ∷ []) ≡ (member a xs || eqb a x)
+member_more a x [] = grind arith
+member_more a x (y ∷ ys) = ap (λ (b : Bool). eqb a y || b) (member_more a x ys) ∙ grind arith
 
 module _ (p : ℕ → Bool) where
   pub in_kept : (a : ℕ) (xs : List ℕ) → In a xs → p a ≡ true → In a (filter p xs)

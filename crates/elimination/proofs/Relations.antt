@@ -2,14 +2,10 @@
 use Rattle.std.proofs.Common.{◌≡◌, ℕ, zero, suc, ◌<◌, Bool, true, false, not, ◌&&◌, ◌||◌, eqb, ◌≢◌, ◌⊎◌, List, [], ◌∷◌, ◌++◌, refl, ap, ◌∙◌, inl, inr, ⊎_elim, arith}
 use Rattle.std.proofs.lemmas.Bool.{and_parts, and_from, cases_eq}
 use Rattle.std.proofs.lemmas.Bool.Decides.{nat_tests}
-use Rattle.elimination.specs.Graphs.{Graph, Simple, every, complete, simplicial, closed, spare}
+use Rattle.std.specs.List.{list_all}
+pub use Rattle.elimination.specs.Graphs.{Symmetric, Irreflexive}
+use Rattle.elimination.specs.Graphs.{Graph, Simple, complete, simplicial, closed, spare}
 use Rattle.elimination.specs.Orders.{In, Order, up_to}
-
-abbrev pub Symmetric : Graph → Type 0
-Symmetric G = (a b : ℕ) → G a b ≡ G b a
-
-abbrev pub Irreflexive : Graph → Type 0
-Irreflexive G = (a : ℕ) → G a a ≡ false
 
 -- any two different members of the list that K holds are neighbours
 abbrev pub Clique : Graph → (ℕ → Bool) → List ℕ → Type 0
@@ -52,24 +48,24 @@ simple n G xs o s = record { symmetric = s.symmetric; irreflexive = s.irreflexiv
 
 -- ---- tests over lists
 
-pub every_in : (p : ℕ → Bool) (xs : List ℕ) → every p xs ≡ true → (a : ℕ) → In a xs → p a ≡ true
+pub every_in : (p : ℕ → Bool) (xs : List ℕ) → list_all p xs ≡ true → (a : ℕ) → In a xs → p a ≡ true
 every_in p [] e a i = absurd i
-every_in p (x ∷ xs) e a (inl q) = ap p q ∙ (and_parts (p x) (every p xs) e).0
-every_in p (x ∷ xs) e a (inr m) = every_in p xs (and_parts (p x) (every p xs) e).1 a m
+every_in p (x ∷ xs) e a (inl q) = ap p q ∙ (and_parts (p x) (list_all p xs) e).0
+every_in p (x ∷ xs) e a (inr m) = every_in p xs (and_parts (p x) (list_all p xs) e).1 a m
 
-pub in-every : (p : ℕ → Bool) (xs : List ℕ) → ((a : ℕ) → In a xs → p a ≡ true) → every p xs ≡ true
+pub in-every : (p : ℕ → Bool) (xs : List ℕ) → ((a : ℕ) → In a xs → p a ≡ true) → list_all p xs ≡ true
 in-every p [] f = refl
-in-every p (x ∷ xs) f = and_from (p x) (every p xs) (f x (inl refl)) (in-every p xs (λ a i. f a (inr i)))
+in-every p (x ∷ xs) f = and_from (p x) (list_all p xs) (f x (inl refl)) (in-every p xs (λ a i. f a (inr i)))
 
 module _ (G : Graph) (p : ℕ → Bool) (xs : List ℕ) where
   pub clique-from : complete G p xs ≡ true → Clique G p xs
-  clique-from e a b ia ib n pa pb = here a b n pa pb (every_in (λ b. not (p a && (p b && not (eqb a b))) || G a b) xs (every_in (λ a. every (λ b. not (p a && (p b && not (eqb a b))) || G a b) xs) xs e a ia) b ib)
+  clique-from e a b ia ib n pa pb = here a b n pa pb (every_in (λ b. not (p a && (p b && not (eqb a b))) || G a b) xs (every_in (λ a. list_all (λ b. not (p a && (p b && not (eqb a b))) || G a b) xs) xs e a ia) b ib)
     where
       here : (a b : ℕ) → a ≢ b → p a ≡ true → p b ≡ true → (not (p a && (p b && not (eqb a b))) || G a b) ≡ true → G a b ≡ true
       here a b n pa pb h = grind (arith, nat_tests)
 
   pub clique-to : Clique G p xs → complete G p xs ≡ true
-  clique-to f = in-every (λ a. every (λ b. not (p a && (p b && not (eqb a b))) || G a b) xs) xs (λ a ia. in-every (λ b. not (p a && (p b && not (eqb a b))) || G a b) xs (λ b ib. here a b (p a) refl (p b) refl (cases_eq a b) (f a b ia ib)))
+  clique-to f = in-every (λ a. list_all (λ b. not (p a && (p b && not (eqb a b))) || G a b) xs) xs (λ a ia. in-every (λ b. not (p a && (p b && not (eqb a b))) || G a b) xs (λ b ib. here a b (p a) refl (p b) refl (cases_eq a b) (f a b ia ib)))
     where
       here : (a b : ℕ) (x : Bool) → p a ≡ x → (y : Bool) → p b ≡ y → (a ≡ b) ⊎ (a ≡ b → ⊥) → (a ≢ b → p a ≡ true → p b ≡ true → G a b ≡ true) → (not (x && (y && not (eqb a b))) || G a b) ≡ true
       here a b false e y d c g = refl

@@ -1,100 +1,93 @@
 -- What a walk over the members of a row has done so far.
-use Rattle.std.proofs.Common.{◌≡◌, ℕ, zero, suc, ◌+◌, ◌-◌, ◌*◌, ◌<◌, ◌≤◌, Bool, true, false, cond, not, ◌&&◌, ◌||◌, eqb, ltb, sym, refl, ap, ◌∙◌, ⊎_elim, arith}
+use Rattle.std.proofs.Common.{◌≡◌, ℕ, zero, suc, ◌+◌, ◌-◌, ◌*◌, ◌<◌, ◌≤◌, Bool, true, false, cond, not, ◌&&◌, ◌||◌, eqb, ◌≢◌, ◌⊎◌, List, [], ◌∷◌, ◌++◌, sym, refl, ap, ◌∙◌, inl, inr, arith}
 use mathlib.Core.Path.{fun_ext}
-use Rattle.std.proofs.lemmas.Bool.{cases_Bool, cases_eq, cases_lt}
+use Rattle.std.proofs.lemmas.Bool.{cases_eq}
 use Rattle.std.proofs.lemmas.Bool.Decides.{nat_tests}
 use Rattle.network.specs.Bits.{count_to}
 use Rattle.network.proofs.Bits.{count_to-add, count_to-same, count_to-le}
 use Rattle.elimination.specs.Elimination.{pairs_below}
-use Rattle.elimination.specs.Graphs.{Graph, apart, around, union, without}
+use Rattle.elimination.specs.Graphs.{Graph, apart, around, including, pairs_at, union, without}
+use Rattle.elimination.specs.Orders.{member}
 use Rattle.elimination.specs.Words.{between, struck, row_taken}
+use Rattle.elimination.proofs.Members.{member_more}
 use Rattle.elimination.proofs.Relations.{Symmetric, Irreflexive}
 
--- no member of the row v from low up to, without, high
-abbrev pub Gap : Graph → ℕ → ℕ → ℕ → Type 0
-Gap G v low high = (x : ℕ) → low ≤ x → x < high → G v x ≡ false
+-- the walk has come to exactly the neighbours of v
+abbrev pub Walked : Graph → ℕ → List ℕ → Type 0
+Walked G v ys = (x : ℕ) → member x ys ≡ G v x
 
 -- ---- taking out the pairs of v
 
--- G without the pairs of v with stations below w
-abbrev pub cut : Graph → ℕ → ℕ → Graph
-cut G v w a b = G a b && not ((eqb a v && ltb b w) || (eqb b v && ltb a w))
+-- G without the pairs of v with some stations
+abbrev pub cut : Graph → ℕ → List ℕ → Graph
+cut G v ys a b = G a b && not ((eqb a v && member b ys) || (eqb b v && member a ys))
 
-pub cut-more : (G : Graph) (v w : ℕ) → without (cut G v w) v w ≡ cut G v (w + 1)
-cut-more G v w = fun_ext (λ a. fun_ext (λ b. at a b))
+pub cut-none : (G : Graph) (v : ℕ) → G ≡ cut G v []
+cut-none G v = fun_ext (λ a. fun_ext (λ b. grind (arith, nat_tests)))
+
+pub cut-more : (G : Graph) (v w : ℕ) (ys : List ℕ) → without (cut G v ys) v w ≡ cut G v (ys ++ w ∷ [])
+cut-more G v w ys = fun_ext (λ a. fun_ext (λ b. at a b))
   where
-    at : (a b : ℕ) → without (cut G v w) v w a b ≡ cut G v (w + 1) a b
-    at a b = grind (arith, nat_tests)
+    at : (a b : ℕ) → without (cut G v ys) v w a b ≡ cut G v (ys ++ w ∷ []) a b
+    at a b = rw (member_more a w ys) (rw (member_more b w ys) (grind (arith, nat_tests)))
 
-pub cut-gap : (G H : Graph) (v low high : ℕ) → Symmetric H → H ≡ cut G v low → low ≤ high → Gap H v low high → H ≡ cut G v high
-cut-gap G H v low high sy e le gap = fun_ext (λ a. fun_ext (λ b. ap (λ (K : Graph). K a b) e ∙ at a b))
+pub cut-all : (G : Graph) (v : ℕ) (ys : List ℕ) → Symmetric G → Walked G v ys → cut G v ys ≡ apart G v
+cut-all G v ys sy f = fun_ext (λ a. fun_ext (λ b. at a b (cases_eq a v) (cases_eq b v)))
   where
-    none : (x : ℕ) → low ≤ x → x < high → cut G v low v x ≡ false
-    none x l h = sym (ap (λ (K : Graph). K v x) e) ∙ gap x l h
-
-    none' : (x : ℕ) → low ≤ x → x < high → cut G v low x v ≡ false
-    none' x l h = sym (ap (λ (K : Graph). K x v) e) ∙ sy x v ∙ gap x l h
-
-    at : (a b : ℕ) → cut G v low a b ≡ cut G v high a b
-    at a b = ⊎_elim row (λ (na : a ≡ v → ⊥). ⊎_elim (column na) (λ (nb : b ≡ v → ⊥). grind (arith, nat_tests)) (cases_eq b v)) (cases_eq a v)
-      where
-        row : a ≡ v → cut G v low a b ≡ cut G v high a b
-        row q = ⊎_elim (λ (l : b < low). grind (arith, nat_tests)) (λ (l : low ≤ b). ⊎_elim (λ (h : b < high). let z : cut G v low a b ≡ false = ap (λ (y : ℕ). cut G v low y b) q ∙ none b l h in z ∙ (grind (arith, nat_tests))) (λ (h : high ≤ b). grind (arith, nat_tests)) (cases_lt b high)) (cases_lt b low)
-
-        column : (a ≡ v → ⊥) → b ≡ v → cut G v low a b ≡ cut G v high a b
-        column na q = ⊎_elim (λ (l : a < low). grind (arith, nat_tests)) (λ (l : low ≤ a). ⊎_elim (λ (h : a < high). let z : cut G v low a b ≡ false = ap (cut G v low a) q ∙ none' a l h in z ∙ (grind (arith, nat_tests))) (λ (h : high ≤ a). grind (arith, nat_tests)) (cases_lt a high)) (cases_lt a low)
-
-pub cut_all : (G : Graph) (v w : ℕ) → ((a b : ℕ) → G a b ≡ true → (a < w) × (b < w)) → cut G v w ≡ apart G v
-cut_all G v w below = fun_ext (λ a. fun_ext (λ b. at a b))
-  where
-    at : (a b : ℕ) → cut G v w a b ≡ apart G v a b
-    at a b =
-        ⊎_elim (λ (h : G a b ≡ true). let l = below a b h in let la : a < w = l.0 in let lb : b < w = l.1 in grind (arith, nat_tests))
-        (λ (h : G a b ≡ false). grind arith) (cases_Bool (G a b))
+    at : (a b : ℕ) → (a ≡ v) ⊎ (a ≢ v) → (b ≡ v) ⊎ (b ≢ v) → cut G v ys a b ≡ apart G v a b
+    at a b (inl p) _ = let m : member b ys ≡ G a b = f b ∙ ap (λ (x : ℕ). G x b) (sym p) in grind (arith, nat_tests)
+    at a b (inr p) (inl q) = let m : member a ys ≡ G a b = f a ∙ sy v a ∙ ap (G a) (sym q) in grind (arith, nat_tests)
+    at a b (inr p) (inr q) = grind (arith, nat_tests)
 
 -- ---- joining the neighbours of v
 
--- G, with the neighbours of v below w joined to all of them
-abbrev pub joining : Graph → ℕ → ℕ → Graph
-joining G v w a b = G a b || (ltb a w && around G v a b)
+-- G, with some neighbours of v joined to all of them
+abbrev pub joining : Graph → ℕ → List ℕ → Graph
+joining G v ys a b = G a b || (member a ys && around G v a b)
 
--- the row of v stays
-pub joining-row : (G : Graph) (v w x : ℕ) → G v v ≡ false → joining G v w v x ≡ G v x
-joining-row G v w x h = grind (arith, nat_tests)
+pub joining-none : (G : Graph) (v : ℕ) → G ≡ joining G v []
+joining-none G v = fun_ext (λ a. fun_ext (λ b. grind (arith, nat_tests)))
 
-pub joining-more : (G H : Graph) (v low w : ℕ) → Irreflexive G → H ≡ joining G v low → low ≤ w → H v w ≡ true → Gap H v low w → struck (row_taken H w v) w w ≡ joining G v (w + 1)
-joining-more G H v low w ir e le here gap = ap (λ (K : Graph). struck (row_taken K w v) w w) e ∙ fun_ext (λ a. fun_ext (λ b. at a b))
+pub joining-more : (G : Graph) (v w : ℕ) (ys : List ℕ) → Irreflexive G → G v w ≡ true → struck (row_taken (joining G v ys) w v) w w ≡ joining G v (ys ++ w ∷ [])
+joining-more G v w ys ir here = fun_ext (λ a. fun_ext (λ b. rw (member_more a w ys) (at a b (cases_eq a w) (cases_eq b w))))
   where
-    row : (x : ℕ) → H v x ≡ G v x
-    row x = ap (λ (K : Graph). K v x) e ∙ joining-row G v low x (ir v)
+    row : (b : ℕ) → joining G v ys v b ≡ G v b
+    row b = let h = ir v in grind (arith, nat_tests)
 
-    hit : G v w ≡ true
-    hit = sym (row w) ∙ here
+    at : (a b : ℕ) → (a ≡ w) ⊎ (a ≢ w) → (b ≡ w) ⊎ (b ≢ w) → struck (row_taken (joining G v ys) w v) w w a b ≡ (G a b || ((member a ys || eqb a w) && around G v a b))
+    at a b (inr p) _ = grind (arith, nat_tests)
+    at a b (inl p) (inl q) = let h : G a b ≡ false = ap (G a) (q ∙ sym p) ∙ ir a in grind (arith, nat_tests)
+    at a b (inl p) (inr q) = let h : G v a ≡ true = ap (G v) p ∙ here in let r = row b in grind (arith, nat_tests)
 
-    at : (a b : ℕ) → struck (row_taken (joining G v low) w v) w w a b ≡ joining G v (w + 1) a b
-    at a b = ⊎_elim same (λ (ne : a ≡ w → ⊥). other ne) (cases_eq a w)
-      where
-        rv : joining G v low v b ≡ G v b
-        rv = joining-row G v low b (ir v)
-
-        same : a ≡ w → struck (row_taken (joining G v low) w v) w w a b ≡ joining G v (w + 1) a b
-        same q = let ha : G v a ≡ true = ap (G v) q ∙ hit in let loop = ir a in ⊎_elim (λ (d : a ≡ b). let z : G a b ≡ false = ap (G a) (sym d) ∙ loop in grind (arith, nat_tests)) (λ (d : a ≡ b → ⊥). let r = rv in grind (arith, nat_tests)) (cases_eq a b)
-
-        other : (a ≡ w → ⊥) → struck (row_taken (joining G v low) w v) w w a b ≡ joining G v (w + 1) a b
-        other ne = ⊎_elim (λ (l : a < low). grind (arith, nat_tests)) (λ (l : low ≤ a). ⊎_elim (λ (h : a < w). let z : G v a ≡ false = sym (row a) ∙ gap a l h in grind (arith, nat_tests)) (λ (h : w ≤ a). grind (arith, nat_tests)) (cases_lt a w)) (cases_lt a low)
-
-pub joining-all : (G H : Graph) (v low : ℕ) → G v v ≡ false → ((a b : ℕ) → G a b ≡ true → (a < 512) × (b < 512)) → H ≡ joining G v low → Gap H v low 512 → H ≡ union G (around G v)
-joining-all G H v low ir below e gap = e ∙ fun_ext (λ a. fun_ext (λ b. at a b))
+pub joining-all : (G : Graph) (v : ℕ) (ys : List ℕ) → Walked G v ys → joining G v ys ≡ union G (around G v)
+joining-all G v ys f = fun_ext (λ a. fun_ext (λ b. at a b (f a)))
   where
-    at : (a b : ℕ) → joining G v low a b ≡ union G (around G v) a b
-    at a b =
-        ⊎_elim
-        (λ (l : a < low). grind (arith, nat_tests))
-        (λ (l : low ≤ a). let z : G v a ≡ false = off a l in grind (arith, nat_tests))
-        (cases_lt a low)
-      where
-        off : (x : ℕ) → low ≤ x → G v x ≡ false
-        off x l = ⊎_elim (λ (t : G v x ≡ true). sym (joining-row G v low x ir) ∙ sym (ap (λ (K : Graph). K v x) e) ∙ gap x l (below v x t).1) (λ (t : G v x ≡ false). t) (cases_Bool (G v x))
+    at : (a b : ℕ) → member a ys ≡ G v a → joining G v ys a b ≡ union G (around G v) a b
+    at a b m = grind arith
+
+-- ---- keeping the pairs of v
+
+-- F with the pairs of v and some stations
+abbrev pub keeping : Graph → ℕ → List ℕ → Graph
+keeping F v ys a b = F a b || ((eqb a v && member b ys) || (eqb b v && member a ys))
+
+pub keeping-none : (F : Graph) (v : ℕ) → F ≡ keeping F v []
+keeping-none F v = fun_ext (λ a. fun_ext (λ b. grind (arith, nat_tests)))
+
+pub keeping-more : (F : Graph) (v w : ℕ) (ys : List ℕ) → including (keeping F v ys) v w ≡ keeping F v (ys ++ w ∷ [])
+keeping-more F v w ys = fun_ext (λ a. fun_ext (λ b. at a b))
+  where
+    at : (a b : ℕ) → including (keeping F v ys) v w a b ≡ keeping F v (ys ++ w ∷ []) a b
+    at a b = rw (member_more a w ys) (rw (member_more b w ys) (grind (arith, nat_tests)))
+
+pub keeping-all : (F W : Graph) (v : ℕ) (ys : List ℕ) → Symmetric W → Walked W v ys → keeping F v ys ≡ union F (pairs_at W v)
+keeping-all F W v ys sy f = fun_ext (λ a. fun_ext (λ b. at a b (cases_eq a v) (cases_eq b v)))
+  where
+    at : (a b : ℕ) → (a ≡ v) ⊎ (a ≢ v) → (b ≡ v) ⊎ (b ≢ v) → keeping F v ys a b ≡ union F (pairs_at W v) a b
+    at a b (inl p) (inl q) = let m : member b ys ≡ W a b = f b ∙ ap (λ (x : ℕ). W x b) (sym p) in let n : member a ys ≡ W a b = f a ∙ sy v a ∙ ap (W a) (sym q) in grind (arith, nat_tests)
+    at a b (inl p) (inr q) = let m : member b ys ≡ W a b = f b ∙ ap (λ (x : ℕ). W x b) (sym p) in grind (arith, nat_tests)
+    at a b (inr p) (inl q) = let m : member a ys ≡ W a b = f a ∙ sy v a ∙ ap (W a) (sym q) in grind (arith, nat_tests)
+    at a b (inr p) (inr q) = grind (arith, nat_tests)
 
 -- ---- counting pairs
 

@@ -1,7 +1,8 @@
 -- All orders of a few stations, and tests over them that compute.
-use Rattle.std.specs.Prelude.{◌≡◌, ℕ, zero, suc, Bool, true, false, not, ◌&&◌, ◌||◌, ◌⊎◌, List, [], ◌∷◌, ◌++◌, map}
+use Rattle.std.specs.Prelude.{◌≡◌, ℕ, zero, suc, Bool, not, ◌||◌, ◌⊎◌, List, [], ◌∷◌, ◌++◌, map}
+use Rattle.std.specs.List.{list_all}
 use Rattle.elimination.specs.Elimination.{fill}
-use Rattle.elimination.specs.Graphs.{Graph, every}
+use Rattle.elimination.specs.Graphs.{Graph}
 use Rattle.elimination.specs.Orders.{up_to}
 
 -- x put into the list at each place
@@ -18,21 +19,13 @@ abbrev pub orders : ℕ → List (List ℕ)
 orders zero = [] ∷ []
 orders (suc n) = inserts_each n (orders n)
 
-abbrev pub every_order : (List ℕ → Bool) → List (List ℕ) → Bool
-every_order p [] = true
-every_order p (xs ∷ xss) = p xs && every_order p xss
-
-abbrev pub some_order : (List ℕ → Bool) → List (List ℕ) → Bool
-some_order p [] = false
-some_order p (xs ∷ xss) = p xs || some_order p xss
-
 -- every pair of F of stations below n is one of G
 abbrev pub within : ℕ → Graph → Graph → Bool
-within n F G = every (λ a. every (λ b. not (F a b) || G a b) (up_to n)) (up_to n)
+within n F G = list_all (λ a. list_all (λ b. not (F a b) || G a b) (up_to n)) (up_to n)
 
 -- no order has a fill that is a proper part of the fill of xs: a fill that lies within it is all of it
 abbrev pub minimal : ℕ → Graph → List ℕ → Bool
-minimal n C xs = every_order (λ ys. not (within n (fill C ys) (fill C xs)) || within n (fill C xs) (fill C ys)) (orders n)
+minimal n C xs = list_all (λ ys. not (within n (fill C ys) (fill C xs)) || within n (fill C xs) (fill C ys)) (orders n)
 
 -- xs is one of the lists
 abbrev pub Listed : List ℕ → List (List ℕ) → Type 0

@@ -26,9 +26,9 @@ marked marks a = slice_index_or marks a false
 abbrev pub Looked : Graph → Graph → List Bool → Type 0
 Looked C G again = (a b : ℕ) → G a b ≡ true → C a b ≡ false → marked again a ≡ false → marked again b ≡ false → spare 512 G a b ≢ true
 
--- the same, the pairs of u from `from` on left out
-abbrev pub LookedTo : Graph → Graph → List Bool → ℕ → ℕ → Type 0
-LookedTo C G again u from = (a b : ℕ) → (a ≡ u → b < from) → (b ≡ u → a < from)
+-- the same, the pairs of u left out
+abbrev pub LookedApart : Graph → Graph → List Bool → ℕ → Type 0
+LookedApart C G again u = (a b : ℕ) → a ≢ u → b ≢ u
     → G a b ≡ true → C a b ≡ false → marked again a ≡ false → marked again b ≡ false → spare 512 G a b ≢ true
 
 -- how many pairs, each counted both ways

@@ -1,5 +1,6 @@
 -- Elimination: stations leave in an order, and pairs are filled as they do.
-use Rattle.std.specs.Prelude.{◌≡◌, ℕ, zero, suc, ◌+◌, Bool, true, cond, not, ◌&&◌, ◌||◌, List, [], ◌∷◌, Some, None, Option, ◌==◌}
+use Rattle.std.specs.Prelude.{◌≡◌, ℕ, zero, suc, ◌+◌, Bool, true, not, ◌&&◌, ◌||◌, List, [], ◌∷◌, Option, ◌==◌, count_by, find}
+use Rattle.std.specs.Option.{option_or}
 use Rattle.network.specs.Bits.{count_to}
 use Rattle.elimination.specs.Graphs.{Graph, ProperPart}
 use Rattle.elimination.specs.Orders.{In, Order, later, earlier, last_of}
@@ -13,6 +14,10 @@ abbrev pub filled : Graph → List ℕ → Graph
 filled G [] a b = G a b
 filled G (v ∷ vs) a b = G a b || filled (after G v) vs a b
 
+-- the pairs are the filled pairs of the order
+abbrev pub FilledPairs : Graph → Graph → List ℕ → Type 0
+FilledPairs pairs couplings order = (a b : ℕ) → pairs a b ≡ filled couplings order a b
+
 -- the pairs of F that are not pairs of C
 abbrev pub beyond : Graph → Graph → Graph
 beyond F C a b = F a b && not (C a b)
@@ -21,27 +26,13 @@ beyond F C a b = F a b && not (C a b)
 abbrev pub fill : Graph → List ℕ → Graph
 fill C xs = beyond (filled C xs) C
 
--- how many members pass the test
-abbrev pub how_many : (ℕ → Bool) → List ℕ → ℕ
-how_many p [] = 0
-how_many p (x ∷ xs) = cond (p x) 1 0 + how_many p xs
-
--- the first member that passes the test
-abbrev pub first_of : (ℕ → Bool) → List ℕ → Option ℕ
-first_of p [] = None
-first_of p (x ∷ xs) = cond (p x) (Some x) (first_of p xs)
-
-abbrev pub or_else : Option ℕ → Option ℕ → Option ℕ
-or_else (Some a) other = Some a
-or_else None other = other
-
 -- the number of later stations that are neighbours of s in F
 abbrev pub later_neighbour_count : Graph → List ℕ → ℕ → ℕ
-later_neighbour_count F xs s = how_many (F s) (later xs s)
+later_neighbour_count F xs s = count_by (F s) (later xs s)
 
 -- the earliest later station that is a neighbour of s in F; if there is none, the last station, and none for the last one
-abbrev pub hanging_from : Graph → List ℕ → ℕ → Option ℕ
-hanging_from F xs s = or_else (first_of (F s) (later xs s)) (last_of (later xs s))
+abbrev pub parent_among : Graph → List ℕ → ℕ → Option ℕ
+parent_among F xs s = option_or (find (F s) (later xs s)) (last_of (later xs s))
 
 -- the number of filled pairs that a station forms with later ones
 abbrev pub count : Graph → List ℕ → ℕ → ℕ
@@ -50,7 +41,7 @@ count C xs s = later_neighbour_count (filled C xs) xs s
 -- the earliest later station with which a station forms a filled pair; if there is none, the last station of the order;
 -- the last station has no parent
 abbrev pub parent : Graph → List ℕ → ℕ → Option ℕ
-parent C xs s = hanging_from (filled C xs) xs s
+parent C xs s = parent_among (filled C xs) xs s
 
 -- the number of pairs of stations below n
 unfoldable pub pairs_below : ℕ → Graph → ℕ

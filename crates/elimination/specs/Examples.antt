@@ -1,7 +1,8 @@
 -- Small networks with an order each, and what is claimed of them: one table, and one test that computes.
 use Rattle.std.specs.Prelude.{ℕ, ◌+◌, Bool, true, false, not, ◌&&◌, ◌||◌, List, [], ◌∷◌, is_some, Some, None, Option, ◌==◌, nat_lt}
+use Rattle.std.specs.List.{list_all, list_any}
 use Rattle.network.specs.Orders.{order_fault}
-use Rattle.elimination.specs.AllOrders.{every_order, minimal, orders, some_order, within}
+use Rattle.elimination.specs.AllOrders.{minimal, orders, within}
 use Rattle.elimination.specs.Elimination.{count, fill, filled, pairs_below, parent}
 use Rattle.elimination.specs.Graphs.{Graph}
 use Rattle.elimination.specs.Orders.{last_of}
@@ -67,12 +68,12 @@ same_station (Some a) (Some b) = a == b
 abbrev pub holds : ℕ → Graph → List ℕ → Claim → Bool
 holds n C xs (fills ps) = alike n (fill C xs) (graph_of ps)
 holds n C xs (places k) = n + pairs_below n (filled C xs) == k
-holds n C xs some_without_fill = some_order (λ ys. within n (fill C ys) none) (orders n)
-holds n C xs none_without_fill = not (some_order (λ ys. within n (fill C ys) none) (orders n))
-holds n C xs (seats s zs) = every_order (λ ys. not (same_station (last_of ys) (Some s) && within n (fill C ys) (fill C xs)) || same_list ys zs) (orders n)
+holds n C xs some_without_fill = list_any (λ ys. within n (fill C ys) none) (orders n)
+holds n C xs none_without_fill = not (list_any (λ ys. within n (fill C ys) none) (orders n))
+holds n C xs (seats s zs) = list_all (λ ys. not (same_station (last_of ys) (Some s) && within n (fill C ys) (fill C xs)) || same_list ys zs) (orders n)
     && (same_station (last_of zs) (Some s) && within n (fill C zs) (fill C xs))
-holds n C xs (tightens ps) = every_order (λ ys. not (within n (fill C ys) (fill C xs)) || (not (minimal n C ys) || alike n (fill C ys) (graph_of ps))) (orders n)
-    && some_order (λ ys. within n (fill C ys) (fill C xs) && minimal n C ys) (orders n)
+holds n C xs (tightens ps) = list_all (λ ys. not (within n (fill C ys) (fill C xs)) || (not (minimal n C ys) || alike n (fill C ys) (graph_of ps))) (orders n)
+    && list_any (λ ys. within n (fill C ys) (fill C xs) && minimal n C ys) (orders n)
 holds n C xs (parent_of s p) = same_station (parent C xs s) p
 holds n C xs (count_of s k) = count C xs s == k
 

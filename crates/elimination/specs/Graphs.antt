@@ -1,10 +1,23 @@
 -- Graphs over stations: which two are neighbours, and which neighbourhoods are complete.
 use Rattle.std.specs.Prelude.{◌≡◌, ℕ, ◌<◌, Bool, true, false, not, ◌&&◌, ◌||◌, List, [], ◌∷◌, ◌==◌}
+use Rattle.std.specs.List.{list_all}
 use Rattle.elimination.specs.Orders.{up_to}
 
 -- whether two stations are neighbours
 abbrev pub Graph : Type 0
 Graph = ℕ → ℕ → Bool
+
+-- a pair is unordered
+abbrev pub Symmetric : Graph → Type 0
+Symmetric G = (a b : ℕ) → G a b ≡ G b a
+
+-- nothing is paired with itself
+abbrev pub Irreflexive : Graph → Type 0
+Irreflexive G = (a : ℕ) → G a a ≡ false
+
+-- only what is below n is paired
+abbrev pub Below : Graph → ℕ → Type 0
+Below G n = (a b : ℕ) → G a b ≡ true → (a < n) × (b < n)
 
 -- a graph over the stations below n: a pair is unordered, and of two different stations
 pub record Simple (n : ℕ) (G : Graph) : Type 0 where
@@ -20,14 +33,9 @@ Sub G H = (a b : ℕ) → G a b ≡ true → H a b ≡ true
 abbrev pub ProperPart : Graph → Graph → Type 0
 ProperPart G H = Sub G H × ((a b : ℕ) × (H a b ≡ true) × (G a b ≡ false))
 
--- whether all members of a list pass a test
-abbrev pub every : (ℕ → Bool) → List ℕ → Bool
-every p [] = true
-every p (x ∷ xs) = p x && every p xs
-
 -- any two different members that pass the test are neighbours
 abbrev pub complete : Graph → (ℕ → Bool) → List ℕ → Bool
-complete G p xs = every (λ a. every (λ b. not (p a && (p b && not (a == b))) || G a b) xs) xs
+complete G p xs = list_all (λ a. list_all (λ b. not (p a && (p b && not (a == b))) || G a b) xs) xs
 
 -- the neighbours of x in the list are pairwise neighbours
 abbrev pub simplicial : Graph → ℕ → List ℕ → Bool

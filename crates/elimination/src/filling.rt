@@ -1,4 +1,4 @@
-//! The filled pairs of an order: stations leave in turn, and each takes along the pairs that it then has.
+//! The filled pairs of an order: stations leave in turn, and the pairs that each then has are kept.
 //! For f filled pairs of n stations it takes about f·n/64 word steps.
 ghost use Rattle.std.specs.Prelude.{◌≡◌, ℕ, ◌<◌, false};
 ghost use Rattle.elimination.specs.Elimination.{after, filled};
@@ -13,10 +13,8 @@ fn keep_pairs(gathered: &mut PairSet, work: &PairSet, v: usize)
     requires { v < 512 }
     ensures { graph gathered.new ≡ union (graph gathered.old) (pairs_at (graph work.now) v) }
 {
-    let mut from = 0;
-    while let Some(a) = work.next(v, from) {
+    for a in work.members(v) {
         gathered.insert(v, a);
-        from = a + 1;
     }
 }
 
@@ -30,25 +28,17 @@ fn leave(work: &mut PairSet, v: usize)
     work.isolate(v);
 }
 
-/// What all stations take along as they leave in turn. It uses the pairs up.
-fn gather(pairs: PairSet, order: &EliminationOrder) -> PairSet
-    requires { Simple order.now.size (graph pairs) }
-    ensures { graph result ≡ filled (graph pairs) (listed order.now) }
-{
-    let mut work = pairs;
-    let mut gathered = PairSet::empty();
-    for k in 0..order.size() {
-        let v = order.station(k) as usize;
-        keep_pairs(&mut gathered, &work, v);
-        leave(&mut work, v);
-    }
-    gathered
-}
-
-/// The filled pairs of an order of stations with these couplings.
+/// The filled pairs of an order of stations with these couplings: the pairs that each station has when it leaves.
 pub fn filled_pairs(couplings: &PairSet, order: &EliminationOrder) -> PairSet
     requires { Simple order.now.size (graph couplings.now) }
     ensures { graph result ≡ filled (graph couplings.now) (listed order.now) }
 {
-    gather(couplings.copy(), order)
+    let mut work = *couplings;
+    let mut gathered = PairSet::empty();
+    for station in order.stations() {
+        let v = *station as usize;
+        keep_pairs(&mut gathered, &work, v);
+        leave(&mut work, v);
+    }
+    gathered
 }

@@ -5,12 +5,11 @@ ghost use Rattle.elimination.specs.Kept.{Found, Named, Placed};
 
 mod calls;
 
-pub(crate) use calls::settled;
-
 /// An order in which stations leave.
-#[derive(Drop)]
+#[derive(Clone, Copy)]
 pub struct EliminationOrder {
     size: u16,
+    // Memory is fixed: places for 512 stations.
     stations: [u16; 512],
     positions: [u16; 512],
     ghost few: { size ≤ 512 },

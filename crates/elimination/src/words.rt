@@ -1,18 +1,10 @@
 //! The words of a set of pairs: 512 rows of eight 64-bit words, row `a` with a bit for each station that is paired with `a`.
-//! All work goes word by word.
-ghost use Rattle.std.specs.Prelude.{◌≡◌, ℕ, ◌+◌, ◌*◌, ◌<◌, ◌≤◌, false, ◌||◌, replicate, ◌==◌, nat_lt};
+//! All work goes word by word. Rows and words are numbers below 512 and 8: they index fixed memory, and a type for each would be unpacked at once.
+ghost use Rattle.std.specs.Prelude.{◌≡◌, ℕ, ◌+◌, ◌*◌, ◌<◌, ◌≤◌, true, false, ◌||◌, ◌==◌, nat_lt, None, IfSome};
 ghost use Rattle.network.specs.Bits.{bit_at, count_to};
 ghost use Rattle.network.specs.Laws.{FirstIs};
 ghost use Rattle.elimination.specs.Elimination.{pairs_below};
-ghost use Rattle.elimination.specs.Graphs.{around, union};
-ghost use Rattle.elimination.specs.Words.{between, has_common_within, has, next_of, placed, rows, row_taken, struck};
-
-/// Words without any pair.
-pub(crate) fn no_pairs() -> [u64; 4096]
-    ensures { result ≡ replicate 4096 0 }
-{
-    [0; 4096]
-}
+ghost use Rattle.elimination.specs.Words.{WordFirst, WordNone, WordWithin, between, has_common_within, has, in_row, placed, rows, row_taken, struck, word_count};
 
 /// Whether `b` is in row `a`.
 pub(crate) fn holds(words: &[u64; 4096], a: usize, b: usize) -> bool
@@ -56,19 +48,34 @@ fn below(n: usize, k: usize) -> u64
     }
 }
 
-/// The first station not below `from` in row `a`: at most eight word steps.
-pub(crate) fn next_in(words: &[u64; 4096], a: usize, from: usize) -> Option<usize>
+/// The words of row `a`.
+pub(crate) fn row_of(words: &[u64; 4096], a: usize) -> [u64; 8]
     requires { a < 512 }
-    ensures value { result ≡ next_of (rows words.now) a from }
-    ensures first { FirstIs (rows words.now a) from 512 result }
+    ensures { in_row result ≡ rows words.now a }
 {
-    for k in from / 64..8 {
-        let word = words[a * 8 + k] & !below(from, k);
-        if word != 0 {
-            return Some(64 * k + word.trailing_zeros() as usize);
-        }
+    let mut row = [0; 8];
+    row.copy_from_slice(&words[a * 8..a * 8 + 8]);
+    row
+}
+
+/// The first member of a row not below `from` in the word `k`.
+fn first_of_word(row: &[u64; 8], from: usize, k: usize) -> Option<usize>
+    requires { k < 8 }
+    ensures none { result ≡ None → WordNone row.now from k }
+    ensures first { IfSome result (WordFirst row.now from k) }
+{
+    let word = row[k] & !below(from, k);
+    if word == 0 {
+        return None;
     }
-    None
+    Some(64 * k + word.trailing_zeros() as usize)
+}
+
+/// The first member of a row not below `from`: at most eight word steps.
+pub(crate) fn first_in(row: &[u64; 8], from: usize) -> Option<usize>
+    ensures { FirstIs (in_row row.now) from 512 result }
+{
+    (from / 64..8).find_map(|k| first_of_word(row, from, k))
 }
 
 /// Puts row `v` into row `a`: eight word steps.
@@ -77,8 +84,10 @@ pub(crate) fn take_row(words: &mut [u64; 4096], a: usize, v: usize)
     requires two { v < 512 }
     ensures { rows words.new ≡ row_taken (rows words.old) a v }
 {
-    for k in 0..8 {
-        words[a * 8 + k] |= words[v * 8 + k];
+    let row = row_of(words, v);
+    let part = &mut words[a * 8..a * 8 + 8];
+    for (k, word) in part.iter_mut().enumerate() {
+        *word |= row[k];
     }
 }
 
@@ -96,6 +105,18 @@ fn with_own(words: &[u64; 4096], c: usize, k: usize) -> u64
     }
 }
 
+/// Whether every common member of rows `a` and `b` in the word `k`, but `c` itself, lies in row `c`.
+fn word_within(words: &[u64; 4096], a: usize, b: usize, c: usize, k: usize) -> bool
+    requires one { a < 512 }
+    requires two { b < 512 }
+    requires third { c < 512 }
+    requires word { k < 8 }
+    ensures within { result ≡ true → WordWithin words.now a b c k }
+    ensures beyond { result ≡ false → WordWithin words.now a b c k → ⊥ }
+{
+    words[a * 8 + k] & words[b * 8 + k] & !with_own(words, c, k) == 0
+}
+
 /// Whether every common member of rows `a` and `b`, but `c` itself, lies in row `c`: at most eight word steps.
 pub(crate) fn common_within(words: &[u64; 4096], a: usize, b: usize, c: usize) -> bool
     requires one { a < 512 }
@@ -103,13 +124,17 @@ pub(crate) fn common_within(words: &[u64; 4096], a: usize, b: usize, c: usize) -
     requires third { c < 512 }
     ensures { result ≡ has_common_within 512 (rows words.now) a b c }
 {
-    for k in 0..8 {
-        let own = with_own(words, c, k);
-        if words[a * 8 + k] & words[b * 8 + k] & !own != 0 {
-            return false;
-        }
-    }
-    true
+    (0..8).all(|k| word_within(words, a, b, c, k))
+}
+
+/// How many members row `a` has in the word `k`, from `low` on and below `high`.
+fn count_word(words: &[u64; 4096], a: usize, low: usize, high: usize, k: usize) -> u32
+    requires one { a < 512 }
+    requires word { k < 8 }
+    ensures { result ≡ word_count (rows words.now) a low high k }
+{
+    let mask = below(high, k) & !below(low, k);
+    (words[a * 8 + k] & mask).count_ones()
 }
 
 /// How many members row `a` has from `low` on and below `high`: eight word steps.
@@ -118,12 +143,7 @@ pub(crate) fn count_between(words: &[u64; 4096], a: usize, low: usize, high: usi
     ensures value { result ≡ count_to (between (rows words.now) a low high) 512 }
     ensures small { result ≤ 512 }
 {
-    let mut total = 0;
-    for k in 0..8 {
-        let mask = below(high, k) & !below(low, k);
-        total += (words[a * 8 + k] & mask).count_ones();
-    }
-    total
+    (0..8).map(|k| count_word(words, a, low, high, k)).sum()
 }
 
 /// How many pairs of stations below `n` there are, each in the row of its larger station: eight word steps for each row.
@@ -132,23 +152,5 @@ pub(crate) fn count_rows(words: &[u64; 4096], n: usize) -> u32
     ensures value { result ≡ pairs_below n (rows words.now) }
     ensures small { result ≤ 512 * n }
 {
-    let mut total = 0;
-    for a in 0..n {
-        total += count_between(words, a, 0, a);
-    }
-    total
-}
-
-/// Joins every two members of row `v`: eight word steps for each member.
-pub(crate) fn join_rows(words: &mut [u64; 4096], v: usize)
-    requires one { v < 512 }
-    requires irreflexive { (a : ℕ) → rows words.old a a ≡ false }
-    ensures { rows words.new ≡ union (rows words.old) (around (rows words.old) v) }
-{
-    let mut from = 0;
-    while let Some(a) = next_in(words, v, from) {
-        take_row(words, a, v);
-        strike(words, a, a);
-        from = a + 1;
-    }
+    (0..n).map(|a| count_between(words, a, 0, a)).sum()
 }

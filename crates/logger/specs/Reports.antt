@@ -1,5 +1,5 @@
 -- What the logger finds: the numbers of a sheet that was read, and that it is written again as it was.
-use Rattle.std.specs.Prelude.{ℕ, true, cond, List, ◌++◌, length, drop, Ok, Err, Result, nat_lt}
+use Rattle.std.specs.Prelude.{ℕ, true, cond, List, ◌∷◌, ◌++◌, length, drop, codes, decimal, Ok, Err, Result, nat_lt}
 use Rattle.std.specs.Str.{bytes_eq}
 use Rattle.network.specs.Encode.{bytes_of}
 use Rattle.network.specs.Net.{Net}
@@ -28,3 +28,9 @@ inspected (Ok s) bytes room =
 abbrev pub again_after : Result Sheet Fault → List ℕ → List ℕ → List ℕ
 again_after (Err f) bytes old = old
 again_after (Ok s) bytes old = cond (nat_lt (length old) (length bytes)) old (bytes ++ drop (length bytes) old)
+
+-- the two lines that a report prints, with a line end between them
+abbrev pub report_text : Report → List ℕ
+report_text r =
+    codes "stations " ++ decimal r.stations ++ codes " couplings " ++ decimal r.couplings ++ codes " bytes " ++ decimal r.bytes
+    ++ (10 ∷ codes "written again: ") ++ cond r.same (codes "the same " ++ decimal r.bytes ++ codes " bytes") (codes "other bytes")

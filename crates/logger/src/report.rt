@@ -1,13 +1,13 @@
 //! What a sheet holds, and that it is written again as the same bytes.
 //! The report's numbers and the second buffer are pinned by the bytes of the sheet alone.
-ghost use Rattle.std.specs.Prelude.{◌≡◌, length};
-ghost use Rattle.std.specs.Str.{bytes_eq};
+ghost use Rattle.std.specs.Prelude.{◌≡◌, length, Some};
 ghost use Rattle.network.specs.Decode.{decode};
 ghost use Rattle.network.specs.Encode.{bytes_of, write_fault, buffer_after};
 ghost use Rattle.network.specs.Refusals.{outcome, unless};
-ghost use Rattle.logger.specs.Reports.{inspected, again_after, report_of};
+ghost use Rattle.logger.specs.Reports.{inspected, again_after, report_of, report_text};
 
 use network::{Network, Refusal, SheetNetwork, count_couplings, read_sheet, write_sheet};
+use std::fmt;
 
 /// What was found of a sheet that was read and written again.
 #[derive(Clone, Copy, Drop)]
@@ -18,11 +18,18 @@ pub struct Report {
     pub same: bool,
 }
 
-// Whether two pieces of memory hold the same bytes.
-fn same_bytes(a: &[u8], b: &[u8]) -> bool
-    ensures { result ≡ bytes_eq a.now b.now }
-{
-    a == b
+impl fmt::Display for Report {
+    ghost output = { λ r. Some (report_text r) };
+
+    fn fmt<W: fmt::Write>(&self, f: &mut fmt::Formatter<W>) -> fmt::Result {
+        let (stations, couplings, bytes) = (self.stations, self.couplings, self.bytes);
+        let counts = format_args!("stations {stations} couplings {couplings} bytes {bytes}");
+        if self.same {
+            write!(f, "{counts}\nwritten again: the same {bytes} bytes")
+        } else {
+            write!(f, "{counts}\nwritten again: other bytes")
+        }
+    }
 }
 
 // Writes a network and an order, and compares the bytes with those of the sheet.
@@ -38,7 +45,7 @@ fn rewrite<N: Network>(
     let stations = network.size();
     let couplings = count_couplings(network);
     let bytes = write_sheet(network, order, again)?;
-    let same = same_bytes(sheet, &again[0..bytes]);
+    let same = sheet == &again[..bytes];
     Ok(Report {
         stations,
         couplings,
@@ -52,9 +59,9 @@ pub fn inspect(sheet: &[u8], again: &mut [u8]) -> Result<Report, Refusal>
     ensures answer { outcome result ≡ inspected (decode sheet.now) sheet.now (length again.old) }
     ensures again { again.new ≡ again_after (decode sheet.now) sheet.now again.old }
 {
-    let mut place = SheetNetwork::lone();
-    let mut order = [0u16; 512];
-    read_sheet(sheet, &mut place, &mut order)?;
-    let stations = place.size() as usize;
-    rewrite(&place, &order[0..stations], sheet, again)
+    let mut network = SheetNetwork::lone();
+    let mut list = [0u16; 512];
+    read_sheet(sheet, &mut network, &mut list)?;
+    let stations = network.size() as usize;
+    rewrite(&network, &list[..stations], sheet, again)
 }

@@ -10,6 +10,7 @@ pub mod Marks
 pub mod Nexts
 pub mod OrderChecks
 pub mod Places
+pub mod Rising
 pub mod SameMeaning
 pub mod Searches
 pub mod SheetNets

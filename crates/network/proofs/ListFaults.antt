@@ -2,7 +2,7 @@
 use Rattle.std.proofs.Common.{◌≡◌, ℕ, zero, suc, ◌+◌, ◌-◌, ◌<◌, ◌≤◌, List, length, Some, None, Ok, Err, Option, Result, sym, refl, ap, ◌∙◌, ⊎_elim, arith}
 use Rattle.std.proofs.lemmas.Bool.{cases_lt}
 use Rattle.network.specs.Refusals.{Fault, or_else, first_fault, unless}
-use Rattle.network.specs.Lists.{starts_length_fault, start_fault, name_fault, one_sided_fault, rows_fault, lists_fault}
+use Rattle.network.specs.Lists.{starts_length_fault, start_fault, starts_fault, name_fault, one_sided_fault, rows_fault, lists_fault}
 use Rattle.network.specs.ListLaws.{found_none}
 
 pub none-or_else : (x y : Option Fault) → x ≡ None → y ≡ None → or_else x y ≡ None
@@ -78,21 +78,27 @@ was-err None f h = absurd (let z : ◌≡◌ {A = ℕ} 0 1 = cc in omega arith)
 
 -- ---- the checks of two lists, one after the other
 
-pub lists_length : (starts names : List ℕ) (f : Fault) → starts_length_fault starts ≡ Some f → lists_fault starts names ≡ Some f
-unfolding lists_fault
-lists_length starts names f h = or_else-some _ _ f h
+or_else-assoc : (x y z : Option Fault) → or_else (or_else x y) z ≡ or_else x (or_else y z)
+or_else-assoc (Some f) y z = refl
+or_else-assoc None y z = refl
 
-pub lists-start : (starts names : List ℕ) (f : Fault) → starts_length_fault starts ≡ None
-    → first_fault (start_fault starts (length names)) (length starts) ≡ Some f → lists_fault starts names ≡ Some f
+in_three : (starts names : List ℕ)
+    → lists_fault starts names ≡ or_else (starts_fault starts (length names)) (or_else (rows_fault starts (name_fault starts names)) (rows_fault starts (one_sided_fault starts names)))
 unfolding lists_fault
-lists-start starts names f long h = or_else-past _ _ long ∙ or_else-some _ _ f h
+in_three starts names =
+    sym (or_else-assoc (starts_length_fault starts) (first_fault (start_fault starts (length names)) (length starts))
+    (or_else (rows_fault starts (name_fault starts names)) (rows_fault starts (one_sided_fault starts names))))
 
-pub lists-name : (starts names : List ℕ) (f : Fault) → starts_length_fault starts ≡ None
-    → first_fault (start_fault starts (length names)) (length starts) ≡ None
-    → rows_fault starts (name_fault starts names) ≡ Some f
-    → lists_fault starts names ≡ Some f
-unfolding lists_fault
-lists-name starts names f long h g = or_else-past _ _ long ∙ or_else-past _ _ h ∙ or_else-some _ _ f g
+pub lists-starts : (starts names : List ℕ) (f : Fault) → starts_fault starts (length names) ≡ Some f → lists_fault starts names ≡ Some f
+lists-starts starts names f h = in_three starts names ∙ or_else-some _ _ f h
+
+pub lists-names : (starts names : List ℕ) (f : Fault) → starts_fault starts (length names) ≡ None
+    → rows_fault starts (name_fault starts names) ≡ Some f → lists_fault starts names ≡ Some f
+lists-names starts names f h g = in_three starts names ∙ or_else-past _ _ h ∙ or_else-some _ _ f g
+
+pub lists-sides : (starts names : List ℕ) → starts_fault starts (length names) ≡ None → rows_fault starts (name_fault starts names) ≡ None
+    → lists_fault starts names ≡ rows_fault starts (one_sided_fault starts names)
+lists-sides starts names h g = in_three starts names ∙ or_else-past _ _ h ∙ or_else-past _ _ g
 
 pub lists_named : (starts names : List ℕ) → starts_length_fault starts ≡ None
     → first_fault (start_fault starts (length names)) (length starts) ≡ None

@@ -2,8 +2,8 @@
 use Rattle.std.proofs.Common.{◌≡◌, ℕ, zero, suc, ◌+◌, ◌-◌, ◌<◌, ◌≤◌, true, cond, ◌||◌, eqb, ltb, leb, List, length, get_or, None, Option, refl, ap, ◌∙◌, ⊎_elim, arith}
 use Rattle.std.proofs.lemmas.Bool.{cases_lt, cases_eq, cond-true, cond-false, and_from, or_left, or_right, eq-eqb, ne_eqb, lt-ltb, le-leb, not_from_false}
 use Rattle.network.specs.Refusals.{Fault}
-use Rattle.network.specs.Lists.{list_size, is_fitting_start, start_fault, is_fitting_name, name_fault, one_sided_fault, row_fault, rows_fault, lists_fault}
-use Rattle.network.specs.ListLaws.{InList, WellFormed, FaultlessListsAreWellFormed, CoupledStationsAreNamed, well-formed, at_named, coupled-named, named-coupled}
+use Rattle.network.specs.Lists.{InList, list_size, is_fitting_start, start_fault, is_fitting_name, name_fault, one_sided_fault, row_fault, rows_fault, lists_fault}
+use Rattle.network.specs.ListLaws.{WellFormed, FaultlessListsAreWellFormed, CoupledStationsAreNamed, well-formed, at_named, coupled-named, named-coupled}
 use Rattle.network.proofs.ListFaults.{walk-all, lists_named}
 
 rows_all : (starts : List ℕ) (found : ℕ → ℕ → Option Fault) → ((s k : ℕ) → InList starts s k → found s k ≡ None) → rows_fault starts found ≡ None

@@ -1,28 +1,18 @@
 -- The checks of a sheet, stage by stage.
-use Rattle.std.proofs.Common.{◌≡◌, ℕ, ◌+◌, ◌*◌, List, Some, None, Ok, Err, Option, sym, ap, ◌∙◌, ap₂}
+use Rattle.std.proofs.Common.{◌≡◌, ℕ, ◌+◌, ◌*◌, List, Some, None, Ok, Err, sym, ap, ◌∙◌, ap₂}
 use Rattle.network.proofs.Faults.{or_else-some, or_else-past, unless-err, unless-ok}
 use Rattle.network.specs.Decode.{place_for, header_fault, pair_fault, placed_fault, end_fault, body_fault, fault, sheet_of, decode, faultless, Stands}
-use Rattle.network.specs.declared.sheets.Header.{Header}
-use Rattle.network.specs.Parts.{header_in, head_of}
 use Rattle.network.specs.Fields.{field}
 use Rattle.network.specs.Refusals.{Fault, or_else, first_fault, unless}
 use Rattle.network.specs.Sheets.{width}
 
-pub head-err : (bs : List ℕ) (e : Fault) → Err e ≡ head_of bs → fault bs ≡ Some e
+pub head-err : (bs : List ℕ) (e : Fault) → Some e ≡ header_fault bs → fault bs ≡ Some e
 unfolding fault
-head-err bs e h = or_else-some (header_fault bs) _ e (unless-err (header_fault bs) (header_in bs) e h)
+head-err bs e h = or_else-some (header_fault bs) _ e (sym h)
 
--- what the header counted
-counted : (bs : List ℕ) (p : Header) (o : Option Fault) → Ok p ≡ unless o (header_in bs) → (o ≡ None) × (p.stations ≡ field bs 5 10) × (p.couplings ≡ field bs 15 17)
-counted bs p o h =
-    let got = unless-ok o (header_in bs) p h in
-    (got.0, ap (λ (x : Header). x.stations) got.1, ap (λ (x : Header). x.couplings) got.1)
-
-pub head_ok : (bs : List ℕ) (p : Header) → Ok p ≡ head_of bs → fault bs ≡ body_fault bs p.stations p.couplings
+pub head_ok : (bs : List ℕ) (n m : ℕ) → None ≡ header_fault bs → n ≡ field bs 5 10 → m ≡ field bs 15 17 → fault bs ≡ body_fault bs n m
 unfolding fault
-head_ok bs p h =
-    let got = counted bs p (header_fault bs) h in
-    or_else-past (header_fault bs) _ got.0 ∙ ap₂ (body_fault bs) (sym got.1) (sym got.2)
+head_ok bs n m none size count = or_else-past (header_fault bs) _ (sym none) ∙ ap₂ (body_fault bs) (sym size) (sym count)
 
 -- ---- stage by stage, with bytes and width as the code has them
 
@@ -47,11 +37,7 @@ pub decode-err : (bs : List ℕ) (e : Fault) → fault bs ≡ Some e → decode 
 unfolding decode
 decode-err bs e h = ap (λ o. unless o (sheet_of bs (field bs 5 10) (field bs 15 17))) h
 
-pub decode-ok : (bs : List ℕ) (p : Header) → Ok p ≡ head_of bs → fault bs ≡ None
-    → (decode bs ≡ Ok (sheet_of bs p.stations p.couplings)) × Stands bs p.stations p.couplings
+pub decode-ok : (bs : List ℕ) (n m : ℕ) → n ≡ field bs 5 10 → m ≡ field bs 15 17 → fault bs ≡ None
+    → (decode bs ≡ Ok (sheet_of bs n m)) × Stands bs n m
 unfolding decode
-decode-ok bs p h none =
-    let got = counted bs p (header_fault bs) h in (
-      ap₂ unless none (ap₂ (sheet_of bs) (sym got.1) (sym got.2)),
-      (ap faultless none, sym got.1, sym got.2),
-    )
+decode-ok bs n m size count none = (ap₂ unless none (ap₂ (sheet_of bs) (sym size) (sym count)), (ap faultless none, sym size, sym count))

@@ -1,5 +1,5 @@
 -- What a reader took, and what that says of the coupling or the station that it read.
-use Rattle.std.proofs.Common.{◌≡◌, ℕ, ◌+◌, ◌*◌, Bool, true, false, cond, List, Ok, Err, sym, refl, ap, ◌∙◌, arith}
+use Rattle.std.proofs.Common.{◌≡◌, ℕ, ◌+◌, Bool, true, false, cond, List, Ok, Err, sym, refl, ap, ap₂, ◌∙◌, arith}
 use Rattle.std.proofs.lemmas.Bool.{cond-true}
 use Rattle.network.proofs.Places.{place-next}
 use Rattle.network.specs.Decode.{place_for, value_at}
@@ -40,23 +40,24 @@ station-cut bs cs p w i f same e h =
       got.1 ∙ ap (at 1) e,
     )
 
--- ---- the coupling k: its first field is taken at p, its second looked for at q
+-- ---- two fields, one after the other: the first is taken at p, the second looked for at q
 
-second_at : (bs : List ℕ) (p q w k larger : ℕ) → p ≡ place_for w (2 * k) → Ok larger ≡ field_in bs p w → q ≡ place_after bs p w → q ≡ place_for w (2 * k + 1)
-second_at bs p q w k larger e first is = then_at bs p w (2 * k) q e (took bs p w larger first).0 is
+second_at : (bs : List ℕ) (p q w first : ℕ) → Ok first ≡ field_in bs p w → q ≡ place_after bs p w → q ≡ p + w
+second_at bs p q w first h is = is ∙ cond-true _ _ _ (took bs p w first h).0
 
-pub pair-cut : (bs cs : List ℕ) (p q w k larger : ℕ) (f : Fault) → p ≡ place_for w (2 * k) → Ok larger ≡ field_in bs p w → q ≡ place_after bs p w → cs ≡ bs → Err f ≡ field_in cs q w
-    → (is_in bs (place_for w (2 * k)) w ≡ true) × (is_in bs (place_for w (2 * k + 1)) w ≡ false) × (f ≡ at 1 (place_for w (2 * k + 1)))
-pair-cut bs cs p q w k larger f e first is same second =
-    let x = station-took bs bs p w (2 * k) larger refl e first in
-    let y = station-cut bs cs q w (2 * k + 1) f same (second_at bs p q w k larger e first is) second in
-    (x.0, y.0, y.1)
+pub second-cut : (bs cs : List ℕ) (p q w first : ℕ) (f : Fault) → Ok first ≡ field_in bs p w → q ≡ place_after bs p w → cs ≡ bs → Err f ≡ field_in cs q w
+    → (is_in bs p w ≡ true) × (is_in bs (p + w) w ≡ false) × (f ≡ at 1 (p + w))
+second-cut bs cs p q w first f h is same second =
+    let e : q ≡ p + w = second_at bs p q w first h is in
+    let y = cut bs (p + w) w f (second ∙ ap₂ (λ l (x : ℕ). field_in l x w) same e) in
+    ((took bs p w first h).0, y.0, y.1)
 
-pub pair-took : (bs cs : List ℕ) (p q w k larger smaller : ℕ) → p ≡ place_for w (2 * k) → Ok larger ≡ field_in bs p w → q ≡ place_after bs p w → cs ≡ bs → Ok smaller ≡ field_in cs q w
-    → (is_in bs (place_for w (2 * k)) w ≡ true) × (is_in bs (place_for w (2 * k + 1)) w ≡ true) × (larger ≡ value_at bs w (2 * k)) × (smaller ≡ value_at bs w (2 * k + 1))
-pair-took bs cs p q w k larger smaller e first is same second =
-    let x = station-took bs bs p w (2 * k) larger refl e first in
-    let y = station-took bs cs q w (2 * k + 1) smaller same (second_at bs p q w k larger e first is) second in
+pub both-took : (bs cs : List ℕ) (p q w first last : ℕ) → Ok first ≡ field_in bs p w → q ≡ place_after bs p w → cs ≡ bs → Ok last ≡ field_in cs q w
+    → (is_in bs p w ≡ true) × (is_in bs (p + w) w ≡ true) × (first ≡ field bs p w) × (last ≡ field bs (p + w) w)
+both-took bs cs p q w first last h is same second =
+    let e : q ≡ p + w = second_at bs p q w first h is in
+    let x = took bs p w first h in
+    let y = took bs (p + w) w last (second ∙ ap₂ (λ l (x : ℕ). field_in l x w) same e) in
     (x.0, y.0, x.1, y.1)
 
 -- where the reader stands after both

@@ -1,5 +1,6 @@
 -- The whole sheet of a network and an order: its bits, its length, and what a writing of it finds.
 use Rattle.std.proofs.Common.{◌≡◌, ℕ, ◌+◌, ◌*◌, ◌/◌, ◌^◌, ◌<◌, ◌≤◌, cond, ltb, List, ◌++◌, length, Some, None, sym, ap, ◌∙◌, ap₂, append_assoc, mul-le-mul_right, arith}
+use Rattle.std.specs.Int.{div_ceil}
 use Rattle.std.proofs.lemmas.List.{length-append}
 use Rattle.std.proofs.lemmas.Bool.{lt-ltb, le-ltb, cond-true, cond-false}
 use Rattle.network.proofs.Counts.{pairs-few}
@@ -51,6 +52,9 @@ unfolding encode
 sheet-length net order = length-pack (bits_in (sheet_from net order))
 
 -- the length by the place p behind the last station, of a list that is an order
+pub div_ceil_is : (p : ℕ) {r : ℕ} → r ≡ div_ceil p 8 → r ≡ (p + 7) / 8
+div_ceil_is p e = omega (arith, e)
+
 pub need-is : (net : Net) (order : List ℕ) (n m w p : ℕ) → n ≡ net.size → order_fault order net.size ≡ None → m ≡ count_of net → w ≡ width n → p ≡ place_for w (2 * m + n)
     → (p + 7) / 8 ≡ length (bytes_of net order)
 need-is net order n m w p en ordered em ew ep =

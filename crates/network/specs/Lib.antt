@@ -3,6 +3,7 @@ pub mod Net
 pub mod Bits
 pub mod Fields
 pub mod Orders
+pub mod Seen
 pub mod Sheets
 pub mod Decode
 pub mod Encode
@@ -14,3 +15,4 @@ pub mod Laws
 pub mod SheetLaws
 pub mod Lists
 pub mod ListLaws
+pub mod ListView

@@ -5,11 +5,7 @@ use Rattle.std.proofs.Common.{sym, ap, ◌∙◌, ⊎_elim, arith}
 use Rattle.std.proofs.lemmas.Bool.{cases_lt, cases_Bool, eq-eqb, ne_eqb, eqb-true, eqb-false, lt-ltb, ltb-true, leb-true, and_parts, and_from, or_cases, or_left, or_right, not-true, both_ways}
 use Rattle.network.specs.Net.{Lawful}
 use Rattle.network.specs.Refusals.{Fault, refuse, or_else, first_fault}
-use Rattle.network.specs.Lists.{list_size, among_names, named_in, list_net, starts_length_fault, is_fitting_start, start_fault, is_fitting_name, name_fault, one_sided_fault, row_fault, rows_fault, lists_fault}
-
--- the name at k stands in the list of station s
-abbrev pub InList : List ℕ → ℕ → ℕ → Type 0
-InList starts s k = (s < list_size starts) × (slice_index starts s ≤ k) × (k < slice_index starts (s + 1))
+use Rattle.network.specs.Lists.{list_size, InList, among_names, named_in, list_net, starts_length_fault, is_fitting_start, start_fault, is_fitting_name, name_fault, one_sided_fault, row_fault, rows_fault, lists_fault}
 
 -- somewhere in the list of a stands b
 abbrev pub Names : List ℕ → List ℕ → ℕ → ℕ → Type 0

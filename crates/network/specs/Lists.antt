@@ -1,12 +1,16 @@
 -- Neighbour lists: which names a station has, what is wrong with two lists, and the network that they give.
 -- Station s has the names from starts s up to, without, starts s + 1.
-use Rattle.std.specs.Prelude.{ℕ, zero, suc, ◌+◌, ◌-◌, Bool, false, cond, not, ◌&&◌, ◌||◌, List, length, None, Option, ◌==◌, nat_le, nat_lt, slice_index}
+use Rattle.std.specs.Prelude.{ℕ, zero, suc, ◌+◌, ◌-◌, ◌<◌, ◌≤◌, Bool, false, cond, not, ◌&&◌, ◌||◌, List, length, None, Option, ◌==◌, nat_le, nat_lt, slice_index}
 use Rattle.network.specs.Net.{Net}
 use Rattle.network.specs.Refusals.{Fault, refuse, or_else, first_fault}
 
 -- there is one station fewer than there are starts
 abbrev pub list_size : List ℕ → ℕ
 list_size starts = length starts - 1
+
+-- the name at k stands in the list of station s
+abbrev pub InList : List ℕ → ℕ → ℕ → Type 0
+InList starts s k = (s < list_size starts) × (slice_index starts s ≤ k) × (k < slice_index starts (s + 1))
 
 -- b is one of the k names from low on
 unfoldable pub among_names : List ℕ → ℕ → ℕ → ℕ → Bool
@@ -36,6 +40,10 @@ is_fitting_start starts count i =
 
 abbrev pub start_fault : List ℕ → ℕ → ℕ → Option Fault
 start_fault starts count i = cond (is_fitting_start starts count i) None (refuse 10 i)
+
+-- the first fault of the starts, whose names are so many: how many starts, then each of them
+abbrev pub starts_fault : List ℕ → ℕ → Option Fault
+starts_fault starts count = or_else (starts_length_fault starts) (first_fault (start_fault starts count) (length starts))
 
 -- in the list of station s, which begins at low, the name at k is another of the n stations, above the name before it
 abbrev pub is_fitting_name : List ℕ → ℕ → ℕ → ℕ → ℕ → Bool

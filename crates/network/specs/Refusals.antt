@@ -1,5 +1,5 @@
 -- What a refusal tells: its number and its place. Every contract that refuses speaks of these.
-use Rattle.std.specs.Prelude.{◌≡◌, ℕ, zero, suc, Some, None, Ok, Err, Option, Result}
+use Rattle.std.specs.Prelude.{◌≡◌, ℕ, zero, suc, List, ◌++◌, codes, decimal, Some, None, Ok, Err, Option, Result}
 use Rattle.network.specs.declared.refusal.Refusal.{Refusal}
 use Rattle.network.specs.declared.refusal.Refusal.TheVariants.{NotWhole, WrongKind, SizeOutOfRange, TooManyCouplings, NoPair, PairNotRising, NoOrderStation, NotEnded, StartsLength, NoStart, NoName, OneSided, OrderLength, NoStation, OutOfRange, TooShort, TableTooShort, NoPlace, UnusablePivot, SheetTooLong}
 
@@ -34,6 +34,10 @@ told (NoPlace p) = at 18 p
 told (UnusablePivot p) = at 19 p
 told SheetTooLong = at 20 0
 
+-- a refusal as it is printed
+abbrev pub fault_text : Fault → List ℕ
+fault_text f = codes "refused " ++ decimal f.number ++ codes " at " ++ decimal f.place
+
 -- no two refusals tell the same, so number and place say which one it is
 abbrev pub ToldApart : Type 0
 ToldApart = (e f : Refusal) → told e ≡ told f → e ≡ f
@@ -42,6 +46,11 @@ ToldApart = (e f : Refusal) → told e ≡ told f → e ≡ f
 abbrev pub outcome : {X : Type 0} → Result X Refusal → Result X Fault
 outcome (Ok x) = Ok x
 outcome (Err e) = Err (told e)
+
+-- what a call refused, by what its refusal tells
+abbrev pub fault_in : {X : Type 0} → Result X Refusal → Option Fault
+fault_in (Ok x) = None
+fault_in (Err e) = Some (told e)
 
 -- what a check found, by what its refusal tells
 abbrev pub finding : Option Refusal → Option Fault

@@ -4,4 +4,4 @@ use Rattle.network.specs.Decode.{sheet_of}
 use Rattle.network.specs.Sheets.{Sheet}
 
 abbrev pub sheet_in : SheetNetwork → Sheet
-sheet_in network = sheet_of network.bytes.now network.size network.couplings
+sheet_in network = sheet_of network.bytes.now network.counts.stations network.counts.couplings

@@ -25,7 +25,7 @@ pub(crate) struct BitWriter<'a> {
 fn byte_or_zero(bytes: &[u8], j: usize) -> u8
     ensures { result ≡ slice_index bytes.now j }
 {
-    if j < bytes.len() { bytes[j] } else { 0 }
+    bytes.get(j).copied().unwrap_or(0)
 }
 
 // The three bytes from `j` on as a number, with 0 for each past the end. No field spans more bytes.
@@ -34,11 +34,13 @@ fn window_of(bytes: &[u8], j: usize) -> u32
     ensures small { result < 2 ^ 24 }
     ensures field { result ≡ field bytes.now (8 * j) 24 }
 {
-    let high = byte_or_zero(bytes, j) as u32;
-    let middle = byte_or_zero(bytes, j + 1) as u32;
-    let low = byte_or_zero(bytes, j + 2) as u32;
-    high * 65536 + middle * 256 + low
+    let high = byte_or_zero(bytes, j);
+    let middle = byte_or_zero(bytes, j + 1);
+    let low = byte_or_zero(bytes, j + 2);
+    u32::from_be_bytes([0, high, middle, low])
 }
+
+// A width of at most 17 is asked for and not a type: each is a constant or a header's, and a type would only wrap those.
 
 // The number in the `width` bits from `at` on, with zero bits past the end.
 pub(crate) fn field_of(bytes: &[u8], at: usize, width: usize) -> u32
@@ -66,7 +68,7 @@ impl<'a> BitReader<'a> {
         ensures bytes { self.new.bytes.now ≡ self.old.bytes.now }
     {
         let at = self.at;
-        if (at + width + 7) / 8 > self.bytes.len() {
+        if (at + width).div_ceil(8) > self.bytes.len() {
             return Err(Refusal::NotWhole(at));
         }
         self.at = at + width;
@@ -78,6 +80,7 @@ impl<'a> BitReader<'a> {
 fn store(bytes: &mut [u8], j: usize, byte: u8)
     ensures { bytes.new ≡ slice_set bytes.old j byte }
 {
+    // Not by `get_mut`: nothing is known of a slice's elements after a write through it.
     if j < bytes.len() {
         bytes[j] = byte;
     }
@@ -88,9 +91,10 @@ fn store_window(bytes: &mut [u8], j: usize, next: u32)
     requires { (j < 2 ^ 60) × (next < 2 ^ 24) }
     ensures { bytes.new ≡ slice_set (slice_set (slice_set bytes.old j (next / 65536 % 256)) (j + 1) (next / 256 % 256)) (j + 2) (next % 256) }
 {
-    store(bytes, j, (next / 65536 % 256) as u8);
-    store(bytes, j + 1, (next / 256 % 256) as u8);
-    store(bytes, j + 2, (next % 256) as u8);
+    let [_, high, middle, low] = next.to_be_bytes();
+    store(bytes, j, high);
+    store(bytes, j + 1, middle);
+    store(bytes, j + 2, low);
 }
 
 // The window with `width` bits from `shift` on replaced by those of the value.

@@ -5,9 +5,11 @@
 mod bit_fields;
 mod list_network;
 mod lists;
+mod name_lists;
 mod net;
 mod orders;
 mod refusal;
+mod seen;
 mod sheet_laws;
 mod sheets;
 
@@ -25,18 +27,14 @@ pub use sheet_laws::{
 pub use sheets::{SheetNetwork, count_couplings, read_sheet, write_sheet};
 
 /// The next coupled station is the smallest one not below the given number.
-pub fn next_is_smallest() -> u8
+pub fn next_is_smallest()
     ensures { NextIsSmallest }
-{
-    0
-}
+{}
 
 /// A sheet that is written reads as itself, one that is read is written as the same bytes,
 /// and what is read is a network and one of its orders.
-pub fn sheets_go_round() -> u8
+pub fn sheets_go_round()
     ensures written { WrittenReads }
     ensures read { ReadWrites }
     ensures well { ReadWell }
-{
-    0
-}
+{}

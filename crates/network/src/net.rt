@@ -21,6 +21,7 @@ pub trait Network {
     fn next(&self, station: u16, from: u16) -> Option<u16>
         ensures { result ≡ next_coupled (meaning self.now) station from }
     {
+        // By the project's rule a search loop that yields the found station by `break`.
         let size = self.size();
         let mut t = from;
         loop {

@@ -1,7 +1,10 @@
 //! Why a call of this system was refused, and where: one variant for each refusal,
 //! carrying its place wherever the place varies.
-ghost use Rattle.std.specs.Prelude.{◌≡◌};
-ghost use Rattle.network.specs.Refusals.{told, ToldApart};
+ghost use Rattle.std.specs.Prelude.{◌≡◌, Some};
+ghost use Rattle.network.specs.Refusals.{fault_text, told, ToldApart};
+
+use std::error::Error;
+use std::fmt;
 
 /// A refusal. Its number and its place are those of docs/REFUSALS.md.
 #[derive(Clone, Copy, PartialEq, Eq, Debug, Drop)]
@@ -49,66 +52,62 @@ pub enum Refusal {
 }
 
 impl Refusal {
+    // One line for each refusal: its number, and its place.
+    fn number_and_place(self) -> (u16, usize)
+        ensures number { result.0 ≡ (told self).number }
+        ensures place { result.1 ≡ (told self).place }
+    {
+        match self {
+            Refusal::NotWhole(bit) => (1, bit),
+            Refusal::WrongKind => (2, 0),
+            Refusal::SizeOutOfRange => (3, 5),
+            Refusal::TooManyCouplings => (4, 15),
+            Refusal::NoPair(bit) => (5, bit),
+            Refusal::PairNotRising(bit) => (6, bit),
+            Refusal::NoOrderStation(bit) => (7, bit),
+            Refusal::NotEnded(bit) => (8, bit),
+            Refusal::StartsLength(length) => (9, length),
+            Refusal::NoStart(index) => (10, index),
+            Refusal::NoName(index) => (11, index),
+            Refusal::OneSided(index) => (12, index),
+            Refusal::OrderLength(length) => (13, length),
+            Refusal::NoStation(index) => (14, index),
+            Refusal::OutOfRange(number) => (15, number as usize),
+            Refusal::TooShort(length) => (16, length),
+            Refusal::TableTooShort(length) => (17, length),
+            Refusal::NoPlace(station) => (18, station as usize),
+            Refusal::UnusablePivot(position) => (19, position as usize),
+            Refusal::SheetTooLong => (20, 0),
+        }
+    }
+
     /// The number of the refusal, 1 to 20.
     pub fn number(self) -> u16
         ensures { result ≡ (told self).number }
     {
-        match self {
-            Refusal::NotWhole(_) => 1,
-            Refusal::WrongKind => 2,
-            Refusal::SizeOutOfRange => 3,
-            Refusal::TooManyCouplings => 4,
-            Refusal::NoPair(_) => 5,
-            Refusal::PairNotRising(_) => 6,
-            Refusal::NoOrderStation(_) => 7,
-            Refusal::NotEnded(_) => 8,
-            Refusal::StartsLength(_) => 9,
-            Refusal::NoStart(_) => 10,
-            Refusal::NoName(_) => 11,
-            Refusal::OneSided(_) => 12,
-            Refusal::OrderLength(_) => 13,
-            Refusal::NoStation(_) => 14,
-            Refusal::OutOfRange(_) => 15,
-            Refusal::TooShort(_) => 16,
-            Refusal::TableTooShort(_) => 17,
-            Refusal::NoPlace(_) => 18,
-            Refusal::UnusablePivot(_) => 19,
-            Refusal::SheetTooLong => 20,
-        }
+        self.number_and_place().0
     }
 
     /// The place of the refusal: a bit, an index, a length or a station, by its number.
     pub fn place(self) -> usize
         ensures { result ≡ (told self).place }
     {
-        match self {
-            Refusal::WrongKind => 0,
-            Refusal::SizeOutOfRange => 5,
-            Refusal::TooManyCouplings => 15,
-            Refusal::SheetTooLong => 0,
-            Refusal::NotWhole(bit)
-            | Refusal::NoPair(bit)
-            | Refusal::PairNotRising(bit)
-            | Refusal::NoOrderStation(bit)
-            | Refusal::NotEnded(bit) => bit,
-            Refusal::NoStart(index)
-            | Refusal::NoName(index)
-            | Refusal::OneSided(index)
-            | Refusal::NoStation(index) => index,
-            Refusal::StartsLength(length)
-            | Refusal::OrderLength(length)
-            | Refusal::TooShort(length)
-            | Refusal::TableTooShort(length) => length,
-            Refusal::OutOfRange(number)
-            | Refusal::NoPlace(number)
-            | Refusal::UnusablePivot(number) => number as usize,
-        }
+        self.number_and_place().1
     }
 }
 
-/// Number and place tell refusals apart.
-pub fn refusals_are_told_apart() -> u8
-    ensures { ToldApart }
-{
-    0
+impl fmt::Display for Refusal {
+    ghost output = { λ e. Some (fault_text (told e)) };
+
+    fn fmt<W: fmt::Write>(&self, f: &mut fmt::Formatter<W>) -> fmt::Result {
+        let (number, place) = self.number_and_place();
+        write!(f, "refused {number} at {place}")
+    }
 }
+
+impl Error for Refusal {}
+
+/// Number and place tell refusals apart.
+pub fn refusals_are_told_apart()
+    ensures { ToldApart }
+{}

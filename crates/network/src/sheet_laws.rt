@@ -6,48 +6,36 @@ ghost use Rattle.network.specs.SheetLaws.{SameCouplingsSameMeaning};
 ghost use Rattle.network.specs.SheetLaws.{ReadLawful, ReadOrdered, ReadSameSheet, ReadSameBytes};
 
 /// A list is accepted as an order of a network's stations exactly if it is one, and then it names every station.
-pub fn accepted_list_is_order() -> u8
+pub fn accepted_list_is_order()
     ensures exact { OrderIs }
     ensures all { OrderNamesAll }
-{
-    0
-}
+{}
 
 /// The width of a station's field in a sheet is the smallest that serves.
-pub fn width_is_smallest() -> u8
+pub fn width_is_smallest()
     ensures { WidthIsSmallest }
-{
-    0
-}
+{}
 
 /// A network and one of its orders that are written and read again come back the same.
-pub fn written_network_returns() -> u8
+pub fn written_network_returns()
     ensures well { NetworkSheetWell }
     ensures same { NetworkReturns }
-{
-    0
-}
+{}
 
 /// No two networks, and no two orders of one, are written as the same bytes.
-pub fn bytes_tell_networks_apart() -> u8
+pub fn bytes_tell_networks_apart()
     ensures { BytesTellApart }
-{
-    0
-}
+{}
 
 /// A sheet that is read is that of a lawful network and one of its orders, and these are written as the same bytes.
-pub fn read_network_is_written_the_same() -> u8
+pub fn read_network_is_written_the_same()
     ensures lawful { ReadLawful }
     ensures ordered { ReadOrdered }
     ensures sheet { ReadSameSheet }
     ensures bytes { ReadSameBytes }
-{
-    0
-}
+{}
 
 /// A sheet network and a list network that were read from the same couplings have equal meanings.
-pub fn same_couplings_same_meaning() -> u8
+pub fn same_couplings_same_meaning()
     ensures { SameCouplingsSameMeaning }
-{
-    0
-}
+{}

@@ -3,9 +3,13 @@
 #![tactic(auto)]
 
 mod bit_string;
+mod fault;
+mod judge;
 #[cfg(test)]
 mod lists;
 #[cfg(test)]
 mod sheets;
+#[cfg(test)]
+mod star;
 #[cfg(test)]
 mod writing;

@@ -7,11 +7,13 @@ use Rattle.network.specs.Bits.{count_to}
 use Rattle.network.specs.Laws.{FirstIs}
 use Rattle.network.proofs.Bits.{count_to-add, count_to-same}
 use Rattle.elimination.specs.Graphs.{Graph}
+use Rattle.elimination.specs.View.{graph}
+use Rattle.elimination.specs.declared.pair_set.PairSet.{PairSet}
 use Rattle.elimination.specs.Words.{between}
 use Rattle.elimination.proofs.RowTests.{is-next}
-use Rattle.plan_parts.specs.Layout.{in_column, rank, start, places, cell, later}
+use Rattle.plan_parts.specs.Layout.{in_column, rank, start, cell, later}
 use Rattle.plan_parts.specs.Reserves.{Symmetric, Below, has_place, next_of_column}
-use Rattle.plan_parts.proofs.Numbering.{rank-later, start-mono, start-suc, some-cell}
+use Rattle.plan_parts.proofs.Numbering.{no_cell, rank-later, start-mono, start-suc, some-cell}
 
 -- ---- a rank is one count over a row
 
@@ -63,10 +65,6 @@ start-few F n (suc m) h l = omega (arith, start-few F n m h (omega arith), rank-
 pub start_small : (F : Graph) (n m : ℕ) → n ≤ 512 → m ≤ 512 → start F n m ≤ 131328
 start_small F n m h l = omega (arith, start-mono F n m 512 l, start-few F n 512 h (omega arith))
 
-pub places-small : (F : Graph) (n : ℕ) → n ≤ 512 → places F n ≤ 131328
-unfolding places
-places-small F n h = start_small F n n h h
-
 -- ---- where columns begin
 
 -- the numbers up to j are where the columns begin
@@ -100,7 +98,7 @@ pub column-own : (F : Graph) (j : ℕ) → in_column F j j ≡ true
 unfolding in_column
 column-own F j = grind (arith, nat_tests)
 
-pub column-above : (F : Graph) (j i : ℕ) → i < j → in_column F j i ≡ false
+column-above : (F : Graph) (j i : ℕ) → i < j → in_column F j i ≡ false
 unfolding in_column
 column-above F j i lt = grind (arith, nat_tests)
 
@@ -108,13 +106,19 @@ pub column-later : (F : Graph) (j i : ℕ) → j < i → in_column F j i ≡ F i
 unfolding in_column
 column-later F j i lt = grind (arith, nat_tests)
 
-pub cell-own : (F : Graph) (n j : ℕ) → j < n → cell F n j j ≡ Some (start F n j)
-cell-own F n j lt = some-cell F n j j lt (column-own F j) ∙ ap (λ (p : ℕ). Some p) (omega (arith, rank-own F j))
+pub cell_own : (F : Graph) (n i j : ℕ) → i ≡ j → i < n → cell F n i j ≡ Some (start F n j)
+cell_own F n i j e lt = rw e (some-cell F n j j (omega (arith, e, lt)) (column-own F j) ∙ ap (λ (p : ℕ). Some p) (omega (arith, rank-own F j)))
 
-pub cell-later : (F : Graph) (n i j : ℕ) → Symmetric F → j < i → i < n → n ≤ 512 → F i j ≡ true
-    → cell F n i j ≡ Some (start F n j + 1 + count_to (between F j (j + 1) i) 512)
-cell-later F n i j s lt h few e =
-    some-cell F n i j h (column-later F j i lt ∙ e) ∙ ap (λ (p : ℕ). Some p) (omega (arith, rank-counted F j i s lt (omega arith)))
+pub cell_above : (F : Graph) (n i j : ℕ) → i < j → cell F n i j ≡ None
+cell_above F n i j lt = no_cell F n i j (column-above F j i lt)
+
+pub cell_unpaired : (F : Graph) (n i j : ℕ) → j < i → F i j ≡ false → cell F n i j ≡ None
+cell_unpaired F n i j lt e = no_cell F n i j (column-later F j i lt ∙ e)
+
+pub cell_later : (pairs : PairSet) (n i j : ℕ) → j < i → i < n → n ≤ 512 → graph pairs i j ≡ true
+    → cell (graph pairs) n i j ≡ Some (start (graph pairs) n j + 1 + count_to (between (graph pairs) j (j + 1) i) 512)
+cell_later pairs n i j lt h few e =
+    some-cell (graph pairs) n i j h (column-later (graph pairs) j i lt ∙ e) ∙ ap (λ (p : ℕ). Some p) (omega (arith, rank-counted (graph pairs) j i pairs.mirrored lt (omega arith)))
 
 -- ---- the next row of a column
 

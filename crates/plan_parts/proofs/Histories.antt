@@ -1,7 +1,7 @@
 -- Every history leads to a plan whose fill is kept; and how a history goes on with one call more.
-use Rattle.std.proofs.Common.{◌≡◌, ℕ, ◌<◌, ◌≤◌, Bool, true, false, cond, not, ltb, List, [], ◌∷◌, ◌++◌, is_some, Some, None, Option, sym, refl, ap, ◌∙◌, subst}
+use Rattle.std.proofs.Common.{◌≡◌, ℕ, ◌≤◌, Bool, true, false, cond, not, List, [], ◌∷◌, ◌++◌, is_some, Some, None, Option, sym, refl, ap, ◌∙◌, subst}
 use mathlib.Core.Path.{fun_ext}
-use Rattle.std.proofs.lemmas.Bool.{cond-false, cond-true, false≢true, le-ltb, lt-ltb}
+use Rattle.std.proofs.lemmas.Bool.{false≢true}
 use Rattle.network.specs.Orders.{order_fault}
 use Rattle.network.specs.Refusals.{Fault}
 use Rattle.network.proofs.Faults.{some-none}
@@ -10,8 +10,8 @@ use Rattle.elimination.specs.Graphs.{Graph, Sub}
 use Rattle.elimination.specs.Orders.{Order}
 use Rattle.elimination.proofs.Listing.{fault-order, order-fault, up_to-order}
 use Rattle.plan_parts.specs.PlanLaws.{FillKept}
-use Rattle.plan_parts.specs.PlanStates.{Asked, Asks, Extends, PlanHistory, PlanState, Question, Seats, Tightens, after_load, is_order, one_refused, with_order}
-use Rattle.plan_parts.specs.PlanStates.Asked.{load, tighten, seat, freeze}
+use Rattle.plan_parts.specs.PlanStates.{Asked, Extends, PlanHistory, PlanState, Question, Tightens, after_load, one_refused, with_order}
+use Rattle.plan_parts.specs.PlanStates.Asked.{load_call, tighten_call, freeze_call, question}
 use Rattle.plan_parts.specs.PlanStates.PlanHistory.{opened, loaded, load_refused, tightened, seated, seat_refused, frozen, asked}
 
 -- a fill within a minimal one is the same
@@ -60,78 +60,37 @@ fill-kept calls given tight s (asked {calls = calls₀} {given = given₀} {tigh
 -- ---- one call more
 
 -- a question leaves the plan as it is
-pub asks : (s : PlanState) (q : Question) → Asks q s
-asks s q = (refl, λ calls given tight h. asked h q)
-
-module _ (s s' : PlanState) where
-  stays : (xs : List ℕ) → s' ≡ with_order s xs → s'.order ≡ xs
-  stays xs e = ap (λ (z : PlanState). z.order) e
-
-  only-order : (xs : List ℕ) → s' ≡ with_order s xs → s' ≡ with_order s s'.order
-  only-order xs e = e ∙ ap (with_order s) (sym (stays xs e))
-
-  -- a list that is an order was loaded
-  pub load-taken : (xs : List ℕ) → order_fault xs s.net.size ≡ None → s' ≡ with_order s xs → (s' ≡ after_load s xs) × Extends (load xs) s s'
-  load-taken xs f e = (
-    e ∙ sym (ap (λ (b : Bool). cond b (with_order s xs) (one_refused s)) o),
-    (
-      ap (λ (z : PlanState). z.net) e,
-      λ calls given tight h.
-          let P : Bool → Type 0 = λ b. PlanHistory (calls ++ (load xs ∷ [])) (cond b xs given) (cond b false tight) s' in
-          let Q : PlanState → Type 0 = λ z. PlanHistory (calls ++ (load xs ∷ [])) xs false z in
-          subst P (sym o) (subst Q (sym e) (loaded h xs (fault-order xs s.net.size f))),
-    ),
-  )
-    where
-      o : is_order s.net.size xs ≡ true
-      o = ap (λ (r : Option Fault). not (is_some r)) f
-
-  -- a list that is none was refused
-  pub load-turned : (xs : List ℕ) (fault : Fault) → s.net.size ≤ 512 → order_fault xs s.net.size ≡ Some fault → s' ≡ one_refused s → (s' ≡ after_load s xs) × Extends (load xs) s s'
-  load-turned xs fault few f e = (
-    e ∙ sym (ap (λ (b : Bool). cond b (with_order s xs) (one_refused s)) o),
-    (
-      ap (λ (z : PlanState). z.net) e,
-      λ calls given tight h.
-          let P : Bool → Type 0 = λ b. PlanHistory (calls ++ (load xs ∷ [])) (cond b xs given) (cond b false tight) s' in
-          let Q : PlanState → Type 0 = λ z. PlanHistory (calls ++ (load xs ∷ [])) given tight z in
-          subst P (sym o) (subst Q (sym e) (load_refused h xs (λ k. some-none (sym f ∙ order-fault xs s.net.size few k)))),
-    ),
-  )
-    where
-      o : is_order s.net.size xs ≡ false
-      o = ap (λ (r : Option Fault). not (is_some r)) f
-
-  pub tighten-left : (ys : List ℕ) → Tightens s.net s.order ys → s' ≡ with_order s ys → Tightens s.net s.order s'.order × (s' ≡ with_order s s'.order) × Extends tighten s s'
-  tighten-left ys k e = (
-    subst (Tightens s.net s.order) (sym (stays ys e)) k,
-    only-order ys e,
-    (
-      ap (λ (z : PlanState). z.net) e,
-      λ calls given tight h. (let Q : PlanState → Type 0 = λ z. PlanHistory (calls ++ (tighten ∷ [])) given true z in subst Q (sym e) (tightened h ys k)),
-    ),
-  )
-
-  pub seat-left : (station : ℕ) → station < s.net.size → (ys : List ℕ) → Seats s.net station s.order ys → s' ≡ with_order s ys
-      → (s' ≡ cond (ltb station s.net.size) (with_order s s'.order) (one_refused s)) × Seats s.net station s.order s'.order × Extends (seat station) s s'
-  seat-left station known ys k e = (
-    only-order ys e ∙ sym (cond-true (ltb station s.net.size) (with_order s s'.order) (one_refused s) (lt-ltb station s.net.size known)),
-    subst (Seats s.net station s.order) (sym (stays ys e)) k,
-    (
-      ap (λ (z : PlanState). z.net) e,
-      λ calls given tight h. (let Q : PlanState → Type 0 = λ z. PlanHistory (calls ++ (seat station ∷ [])) given tight z in subst Q (sym e) (seated h station known ys k)),
-    ),
-  )
-
-  pub seat-turned : (station : ℕ) → s.net.size ≤ station → s' ≡ one_refused s → (s' ≡ cond (ltb station s.net.size) (with_order s s'.order) (one_refused s)) × Extends (seat station) s s'
-  seat-turned station unknown e = (
-    e ∙ sym (cond-false (ltb station s.net.size) (with_order s s'.order) (one_refused s) (le-ltb station s.net.size unknown)),
-    (
-      ap (λ (z : PlanState). z.net) e,
-      λ calls given tight h. (let Q : PlanState → Type 0 = λ z. PlanHistory (calls ++ (seat station ∷ [])) given tight z in subst Q (sym e) (seat_refused h station unknown)),
-    ),
-  )
+pub asks : (s : PlanState) (q : Question) → Extends (question q) s s
+asks s q = record { net = refl; history = λ calls given tight h. asked h q }
 
 -- freezing leaves the plan as it is
-pub freezes : (s : PlanState) → Extends freeze s s
-freezes s = (refl, λ calls given tight h. frozen h)
+pub freezes : (s : PlanState) → Extends freeze_call s s
+freezes s = record { net = refl; history = λ calls given tight h. frozen h }
+
+module _ (s : PlanState) (xs : List ℕ) where
+  load-taken : order_fault xs s.net.size ≡ None → Extends (load_call xs) s (with_order s xs)
+  load-taken f = record {
+    net = refl;
+    history = λ calls given tight h.
+        let P : Bool → Type 0 = λ b. PlanHistory (calls ++ (load_call xs ∷ [])) (cond b xs given) (cond b false tight) (with_order s xs) in
+        subst P (sym (ap (λ (r : Option Fault). not (is_some r)) f)) (loaded h xs (fault-order xs s.net.size f));
+  }
+
+  load-turned : (fault : Fault) → s.net.size ≤ 512 → order_fault xs s.net.size ≡ Some fault → Extends (load_call xs) s (one_refused s)
+  load-turned fault few f = record {
+    net = refl;
+    history = λ calls given tight h.
+        let P : Bool → Type 0 = λ b. PlanHistory (calls ++ (load_call xs ∷ [])) (cond b xs given) (cond b false tight) (one_refused s) in
+        subst P (sym (ap (λ (r : Option Fault). not (is_some r)) f)) (load_refused h xs (λ k. some-none (sym f ∙ order-fault xs s.net.size few k)));
+  }
+
+  by-fault : s.net.size ≤ 512 → (o : Option Fault) → order_fault xs s.net.size ≡ o → Extends (load_call xs) s (cond (not (is_some o)) (with_order s xs) (one_refused s))
+  by-fault few None f = load-taken f
+  by-fault few (Some fault) f = load-turned fault few f
+
+-- a list was loaded, or refused
+pub loads : (s s' : PlanState) (xs : List ℕ) → s.net.size ≤ 512 → s' ≡ after_load s xs → Extends (load_call xs) s s'
+loads s s' xs few e = subst (Extends (load_call xs) s) (sym e) (by-fault s xs few (order_fault xs s.net.size) refl)
+
+pub tightens : (s s' : PlanState) → Tightens s.net s.order s'.order → s' ≡ with_order s s'.order → Extends tighten_call s s'
+tightens s s' k e = subst (Extends tighten_call s) (sym e) (record { net = refl; history = λ calls given tight h. tightened h s'.order k })

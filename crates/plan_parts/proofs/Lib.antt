@@ -6,6 +6,7 @@ pub mod StationPlaces
 pub mod Couplings
 pub mod Histories
 pub mod Plans
+pub mod Calls
 pub mod Replays
 pub mod Marks
 pub mod Reaching

@@ -1,5 +1,5 @@
 -- The layout numbers its places without gap and without repeat.
-use Rattle.std.proofs.Common.{◌≡◌, ℕ, zero, suc, ◌+◌, ◌-◌, ◌<◌, ◌≤◌, true, false, cond, ◌&&◌, ltb, Some, None, refl, ap, ◌∙◌, inl, inr, add-zero, add-one, arith}
+use Rattle.std.proofs.Common.{◌≡◌, ℕ, zero, suc, ◌+◌, ◌-◌, ◌<◌, ◌≤◌, true, false, cond, ◌&&◌, ltb, Some, None, refl, ap, ◌∙◌, inl, inr, arith}
 use Rattle.std.proofs.lemmas.Bool.{cases_Bool, cases_lt, cases_eq, cases_order, and_parts, and_right, and_left, le-ltb, ltb-true, lt-ltb}
 use Rattle.std.proofs.lemmas.Bool.Decides.{nat_tests}
 use Rattle.elimination.specs.Graphs.{Graph}
@@ -16,17 +16,6 @@ rank_mono F j a (suc b) h = elim (cases_eq a (suc b)) [
 rank-suc : (F : Graph) (j i : ℕ) → in_column F j i ≡ true → rank F j (suc i) ≡ rank F j i + 1
 unfolding rank
 rank-suc F j i h = simp h
-
-pub rank-none : (F : Graph) (j : ℕ) → rank F j 0 ≡ 0
-unfolding rank
-rank-none F j = refl
-
-pub rank-in : (F : Graph) (j i : ℕ) → in_column F j i ≡ true → rank F j (i + 1) ≡ rank F j i + 1
-rank-in F j i h = rw (add-one i) (rank-suc F j i h)
-
-pub rank-out : (F : Graph) (j i : ℕ) → in_column F j i ≡ false → rank F j (i + 1) ≡ rank F j i
-unfolding rank
-rank-out F j i h = rw add-one (simp h (add-zero _))
 
 pub no_cell : (F : Graph) (n i j : ℕ) → in_column F j i ≡ false → cell F n i j ≡ None
 unfolding cell

@@ -1,30 +1,15 @@
--- What a plan keeps, in the forms that calls on its parts ask for.
-use Rattle.std.proofs.Common.{◌≡◌, ℕ, true, List, sym, ap, ◌∙◌, subst}
-use mathlib.Core.Path.{fun_ext}
+-- What an elimination keeps, in the forms that calls on its parts ask for.
+use Rattle.std.proofs.Common.{◌≡◌, ℕ, true, false, sym, ap, ◌∙◌, subst}
 use Rattle.network.specs.Net.{Net, Lawful}
+use Rattle.elimination.specs.declared.engine.Elimination.{Elimination}
 use Rattle.elimination.specs.Elimination.{filled}
 use Rattle.elimination.specs.Graphs.{Graph, Simple, closed}
-use Rattle.elimination.specs.Orders.{up_to}
 use Rattle.elimination.specs.View.{graph, listed}
+use Rattle.elimination.proofs.Eliminations.{pairs-of, simple-of}
+use Rattle.elimination.proofs.Least.{filled-irreflexive}
 use Rattle.elimination.proofs.Listing.{order-of}
 use Rattle.elimination.proofs.Relations.{closed-to}
 use Rattle.elimination.proofs.Statements.{filled-order-closed, filled-simple, lawful-simple}
-use Rattle.plan_parts.specs.PlanStates.{PlanState, opening}
-use Rattle.plan_parts.specs.declared.plan.Plan.{Plan}
-
-pub simple-couplings : (p : Plan) → Simple p.order.size (graph p.couplings)
-simple-couplings p = record { symmetric = p.symmetric; irreflexive = p.irreflexive; below = p.below }
-
-pub pairs-filled : (p : Plan) → graph p.pairs ≡ filled (graph p.couplings) (listed p.order)
-pairs-filled p = fun_ext (λ a. fun_ext (λ b. p.filled a b))
-
--- a plan with the size and the couplings of a network, and the rising order
-pub opened-state : (net : Net) (size : ℕ) (C : Graph) (xs : List ℕ) → size ≡ net.size → C ≡ net.coupled → xs ≡ up_to size
-    → ◌≡◌ {A = PlanState} (record { net = record { size = size; coupled = C }; order = xs; refused = 0 }) (opening net)
-opened-state net size C xs e f t =
-    ap (λ (ys : List ℕ). record { net = record { size = size; coupled = C }; order = ys; refused = 0 }) t
-    ∙ ap (λ (G : Graph). record { net = record { size = size; coupled = G }; order = up_to size; refused = 0 }) f
-    ∙ ap (λ (n : ℕ). record { net = record { size = n; coupled = net.coupled }; order = up_to n; refused = 0 }) e
 
 pub opened-simple : (net : Net) → Lawful net → (size : ℕ) (C : Graph) → size ≡ net.size → C ≡ net.coupled → Simple size C
 opened-simple net l size C e f =
@@ -32,22 +17,14 @@ opened-simple net l size C e f =
     let Q : Graph → Type 0 = λ G. Simple net.size G in
     subst P (sym e) (subst Q (sym f) (lawful-simple net l))
 
--- the same couplings, by another set
-pub same-simple : (p : Plan) (size : ℕ) (C : Graph) → size ≡ p.order.size → C ≡ graph p.couplings → Simple size C
-same-simple p size C e f =
-    let P : ℕ → Type 0 = λ n. Simple n C in
-    let Q : Graph → Type 0 = λ G. Simple p.order.size G in
-    subst P (sym e) (subst Q (sym f) (simple-couplings p))
+pub pairs-simple : (e : Elimination) → Simple e.order.size (graph e.pairs)
+pairs-simple e = subst (λ (G : Graph). Simple e.order.size G) (sym (pairs-of e)) (filled-simple e.order.size (graph e.couplings) (simple-of e) (listed e.order) (order-of e.order))
 
--- ---- the filled pairs
+pub pairs-closed : (e : Elimination) → closed (graph e.pairs) (listed e.order) ≡ true
+pairs-closed e =
+    subst (λ (G : Graph). closed G (listed e.order) ≡ true) (sym (pairs-of e))
+    (closed-to (filled (graph e.couplings) (listed e.order)) (listed e.order) (filled-order-closed e.order.size (graph e.couplings) (simple-of e) (listed e.order) (order-of e.order)))
 
-pub pairs-simple : (p : Plan) → Simple p.order.size (graph p.pairs)
-pairs-simple p =
-    let P : Graph → Type 0 = λ G. Simple p.order.size G in
-    subst P (sym (pairs-filled p)) (filled-simple p.order.size (graph p.couplings) (simple-couplings p) (listed p.order) (order-of p.order))
-
-pub pairs-closed : (p : Plan) → closed (graph p.pairs) (listed p.order) ≡ true
-pairs-closed p =
-    let P : Graph → Type 0 = λ G. closed G (listed p.order) ≡ true in
-    subst P (sym (pairs-filled p))
-    (closed-to (filled (graph p.couplings) (listed p.order)) (listed p.order) (filled-order-closed p.order.size (graph p.couplings) (simple-couplings p) (listed p.order) (order-of p.order)))
+-- no station forms a filled pair with itself
+pub pairs_apart : (e : Elimination) (a b : ℕ) → a ≡ b → graph e.pairs a b ≡ false
+pairs_apart e a b same = ap (graph e.pairs a) (sym same) ∙ e.filled a a ∙ filled-irreflexive (graph e.couplings) (listed e.order) e.irreflexive a

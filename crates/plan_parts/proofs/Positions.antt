@@ -1,10 +1,11 @@
 -- Graphs by positions in an order: what they keep of the graph over stations, and how the set of pairs is filled row by row.
-use Rattle.std.proofs.Common.{◌≡◌, ℕ, ◌+◌, ◌<◌, ◌≤◌, Bool, true, false, ◌&&◌, ◌||◌, eqb, ltb, List, length, get_or, sym, refl, ap, ◌∙◌, ⊎_elim, arith}
+use Rattle.std.proofs.Common.{◌≡◌, ℕ, ◌+◌, ◌<◌, Bool, true, false, ◌&&◌, ◌||◌, eqb, ltb, List, [], ◌∷◌, ◌++◌, length, get_or, sym, ap, ◌∙◌, ⊎_elim, arith}
 use mathlib.Core.Path.{fun_ext}
-use Rattle.std.proofs.lemmas.Bool.{and_parts, cases_eq, cases_lt, ltb-true}
+use Rattle.std.proofs.lemmas.Bool.{and_parts, cases_Bool, cases_eq, ltb-true}
 use Rattle.std.proofs.lemmas.Bool.Decides.{nat_tests}
 use Rattle.elimination.specs.Graphs.{Graph, including, union, pairs_at}
-use Rattle.elimination.specs.Orders.{Distinct}
+use Rattle.elimination.specs.Orders.{Distinct, member}
+use Rattle.elimination.proofs.Members.{member_more}
 use Rattle.elimination.proofs.Listing.{same_place}
 use Rattle.elimination.proofs.Relations.{Closed}
 use Rattle.plan_parts.specs.Layout as layout
@@ -44,14 +45,14 @@ module _ (G : Graph) (xs : List ℕ) where
 abbrev pub row_to : Graph → ℕ → (ℕ → Bool) → Graph
 row_to F i p x y = F x y || ((eqb x i && p y) || (eqb y i && p x))
 
--- what is paired with i in H, and stands for a station below b
-abbrev pub reached : Graph → List ℕ → ℕ → ℕ → ℕ → Bool
-reached H xs i b z = H i z && ltb (get_or xs z 0) b
+-- what is paired with i in H, and stands for one of some stations
+abbrev pub reached : Graph → List ℕ → ℕ → List ℕ → ℕ → Bool
+reached H xs i ys z = H i z && member (get_or xs z 0) ys
 
-pub row-none : (F H : Graph) (xs : List ℕ) (i : ℕ) → F ≡ row_to F i (reached H xs i 0)
+pub row-none : (F H : Graph) (xs : List ℕ) (i : ℕ) → F ≡ row_to F i (reached H xs i [])
 row-none F H xs i = fun_ext (λ x. fun_ext (λ y. at x y))
   where
-    at : (x y : ℕ) → F x y ≡ row_to F i (reached H xs i 0) x y
+    at : (x y : ℕ) → F x y ≡ row_to F i (reached H xs i []) x y
     at x y = grind (arith, nat_tests)
 
 row_more : (F : Graph) (i k : ℕ) (p q : ℕ → Bool) → ((z : ℕ) → (p z || eqb z k) ≡ q z) → including (row_to F i p) i k ≡ row_to F i q
@@ -76,73 +77,41 @@ row-all F H i p s same = fun_ext (λ x. fun_ext (λ y. at x y))
         ⊎_elim (λ (ey : y ≡ i). let hy : H y x ≡ H i x = ap (λ (z : ℕ). H z x) ey in grind (arith, nat_tests)) (λ (ny : y ≡ i → ⊥). grind (arith, nat_tests)) (cases_eq y i))
         (cases_eq x i)
 
-module _ (G : Graph) (xs : List ℕ) (d : Distinct xs) (i : ℕ) (hi : i < length xs) where
+module _ (G : Graph) (xs : List ℕ) (i : ℕ) where
   -- the next station of the row, b at the position k
-  pub placed-more : (F E : Graph) (from b k : ℕ) → E ≡ row_to F i (reached (by_position G xs) xs i from) → from ≤ b → G (get_or xs i 0) b ≡ true
-      → ((s : ℕ) → from ≤ s → s < b → G (get_or xs i 0) s ≡ false) → k < length xs → get_or xs k 0 ≡ b
-      → including E i k ≡ row_to F i (reached (by_position G xs) xs i (b + 1))
-  placed-more F E from b k e le here gap hk at = ap (λ (K : Graph). including K i k) e ∙ row_more F i k (reached H xs i from) (reached H xs i (b + 1)) same
+  pub placed-more : Distinct xs → i < length xs → (F : Graph) (ys : List ℕ) (b k : ℕ) → G (get_or xs i 0) b ≡ true → k < length xs → get_or xs k 0 ≡ b
+      → including (row_to F i (reached (by_position G xs) xs i ys)) i k ≡ row_to F i (reached (by_position G xs) xs i (ys ++ b ∷ []))
+  placed-more d hi F ys b k here hk at = row_more F i k (reached H xs i ys) (reached H xs i (ys ++ b ∷ [])) (λ z. rw (member_more (get_or xs z 0) b ys) (⊎_elim (own z) (other z) (cases_eq z k)))
     where
       H : Graph
       H = by_position G xs
 
-      out : (z : ℕ) → G (get_or xs i 0) (get_or xs z 0) ≡ false → H i z ≡ false
-      out z n = grind (arith, nat_tests)
-
-      past : (z : ℕ) → length xs ≤ z → H i z ≡ false
-      past z n = grind (arith, nat_tests)
-
-      own : (z : ℕ) → z ≡ k → (reached H xs i from z || eqb z k) ≡ reached H xs i (b + 1) z
+      own : (z : ℕ) → z ≡ k → (reached H xs i ys z || eqb z k) ≡ (H i z && (member (get_or xs z 0) ys || eqb (get_or xs z 0) b))
       own z q =
           let s : get_or xs z 0 ≡ b = ap (λ (m : ℕ). get_or xs m 0) q ∙ at in
           let t : H i z ≡ true = position_at G xs i z hi (omega arith) ∙ ap (G (get_or xs i 0)) s ∙ here in
           grind (arith, nat_tests)
 
-      other : (z : ℕ) → (z ≡ k → ⊥) → (reached H xs i from z || eqb z k) ≡ reached H xs i (b + 1) z
+      other : (z : ℕ) → (z ≡ k → ⊥) → (reached H xs i ys z || eqb z k) ≡ (H i z && (member (get_or xs z 0) ys || eqb (get_or xs z 0) b))
       other z n =
-          ⊎_elim (λ (l : get_or xs z 0 < from). grind (arith, nat_tests))
-          (λ (l : from ≤ get_or xs z 0). ⊎_elim
-          (λ (h : get_or xs z 0 < b). let o = out z (gap (get_or xs z 0) l h) in grind (arith, nat_tests))
-          (λ (h : b ≤ get_or xs z 0). ⊎_elim
-          (λ (hz : z < length xs). let m : get_or xs z 0 ≡ b → ⊥ = λ q. n (same_place xs d z k hz hk (q ∙ sym at)) in grind (arith, nat_tests))
-          (λ (hz : length xs ≤ z). let o = past z hz in grind (arith, nat_tests))
-          (cases_lt z (length xs)))
-          (cases_lt (get_or xs z 0) b))
-          (cases_lt (get_or xs z 0) from)
+          ⊎_elim
+          (λ (t : H i z ≡ true). let m : get_or xs z 0 ≡ b → ⊥ = λ q. n (same_place xs d z k (position-parts G xs i z t).1 hk (q ∙ sym at)) in grind (arith, nat_tests))
+          (λ (t : H i z ≡ false). grind (arith, nat_tests))
+          (cases_Bool (H i z))
 
-      same : (z : ℕ) → (reached H xs i from z || eqb z k) ≡ reached H xs i (b + 1) z
-      same z = ⊎_elim (own z) (other z) (cases_eq z k)
-
-  -- no further station in the row
-  pub placed-all : (F E : Graph) (from : ℕ) → Symmetric G → E ≡ row_to F i (reached (by_position G xs) xs i from)
-      → ((s : ℕ) → from ≤ s → G (get_or xs i 0) s ≡ false) → E ≡ union F (pairs_at (by_position G xs) i)
-  placed-all F E from s e gap = e ∙ row-all F (by_position G xs) i (reached (by_position G xs) xs i from) (position-symmetric G xs s) same
+  -- the whole row
+  pub placed-all : (F : Graph) (ys : List ℕ) → Symmetric G → ((x : ℕ) → member x ys ≡ G (get_or xs i 0) x) → row_to F i (reached (by_position G xs) xs i ys) ≡ union F (pairs_at (by_position G xs) i)
+  placed-all F ys s all = row-all F (by_position G xs) i (reached (by_position G xs) xs i ys) (position-symmetric G xs s) (λ z. same z (all (get_or xs z 0)))
     where
-      same : (z : ℕ) → reached (by_position G xs) xs i from z ≡ by_position G xs i z
-      same z =
-          ⊎_elim (λ (l : get_or xs z 0 < from). grind (arith, nat_tests))
-          (λ (l : from ≤ get_or xs z 0). let o = gap (get_or xs z 0) l in grind (arith, nat_tests))
-          (cases_lt (get_or xs z 0) from)
+      same : (z : ℕ) → member (get_or xs z 0) ys ≡ G (get_or xs i 0) (get_or xs z 0) → reached (by_position G xs) xs i ys z ≡ by_position G xs i z
+      same z m = grind (arith, nat_tests)
 
 -- the pairs of H at positions below k
 abbrev pub rows_to : Graph → ℕ → Graph
 rows_to H k x y = H x y && (ltb x k || ltb y k)
-
-pub rows_none : (H E : Graph) → ((x y : ℕ) → E x y ≡ false) → E ≡ rows_to H 0
-rows_none H E f = fun_ext (λ x. fun_ext (λ y. at x y))
-  where
-    at : (x y : ℕ) → E x y ≡ rows_to H 0 x y
-    at x y = let e = f x y in grind (arith, nat_tests)
 
 pub rows_more : (H E : Graph) (k : ℕ) → E ≡ rows_to H k → union E (pairs_at H k) ≡ rows_to H (k + 1)
 rows_more H E k e = ap (λ (K : Graph). union K (pairs_at H k)) e ∙ fun_ext (λ x. fun_ext (λ y. at x y))
   where
     at : (x y : ℕ) → union (rows_to H k) (pairs_at H k) x y ≡ rows_to H (k + 1) x y
     at x y = grind (arith, nat_tests)
-
-pub rows_all : (H E : Graph) (k n : ℕ) → Below H n → n ≤ k → E ≡ rows_to H k → E ≡ H
-rows_all H E k n below le e = e ∙ fun_ext (λ x. fun_ext (λ y. at x y (H x y) refl))
-  where
-    at : (x y : ℕ) (b : Bool) → H x y ≡ b → rows_to H k x y ≡ H x y
-    at x y true t = let l = below x y t in let m : x < k = omega (arith, l.0) in grind (arith, nat_tests)
-    at x y false t = grind (arith, nat_tests)

@@ -6,7 +6,7 @@ use Rattle.network.specs.Net.{Net}
 use Rattle.elimination.specs.Orders.{up_to}
 use Rattle.plan_parts.specs.PlanCalls.{asked}
 use Rattle.plan_parts.specs.PlanLaws.{FillKept}
-use Rattle.plan_parts.specs.PlanStates.{Asked, Extends, PlanHistory, PlanState, Replayed, given_after, given_by, given_from, opening, tight_after, tight_by, tight_from}
+use Rattle.plan_parts.specs.PlanStates.{Asked, Extends, PlanHistory, PlanState, Replayed, given_after, given_by, given_from, tight_after, tight_by, tight_from}
 use Rattle.plan_parts.specs.declared.plan.plan_call.PlanCall.{PlanCall}
 use Rattle.plan_parts.proofs.Histories.{fill-kept}
 
@@ -18,18 +18,15 @@ tight-more : (n : ℕ) (tight : Bool) (calls : List Asked) (a : Asked) → tight
 tight-more n tight [] a = refl
 tight-more n tight (call ∷ calls) a = tight-more n (tight_after n call tight) calls a
 
-pub replay-none : (net : Net) (s : PlanState) → PlanHistory [] (up_to net.size) false s → s ≡ opening net → Replayed net [] s
-replay-none net s h e = (h, ap (λ (z : PlanState). z.net) e)
-
 pub replay-more : (net : Net) (calls calls' : List Asked) (s s' : PlanState) (a : Asked) → calls' ≡ calls ++ (a ∷ []) → Replayed net calls s → Extends a s s' → Replayed net calls' s'
 replay-more net calls calls' s s' a e r x =
     let n : ℕ = net.size in
-    let h = x.1 calls (given_by n calls) (tight_by n calls) r.0 in
+    let h = x.history calls (given_by n calls) (tight_by n calls) r.0 in
     let Z : Net → Type 0 = λ m. PlanHistory (calls ++ (a ∷ [])) (given_after m.size a (given_by n calls)) (tight_after m.size a (tight_by n calls)) s' in
     let G : List ℕ → Type 0 = λ given. PlanHistory (calls ++ (a ∷ [])) given (tight_after n a (tight_by n calls)) s' in
     let T : Bool → Type 0 = λ tight. PlanHistory (calls ++ (a ∷ [])) (given_by n (calls ++ (a ∷ []))) tight s' in
     let C : List Asked → Type 0 = λ l. PlanHistory l (given_by n l) (tight_by n l) s' in
-    (subst C (sym e) (subst T (sym (tight-more n false calls a)) (subst G (sym (given-more n (up_to n) calls a)) (subst Z r.1 h))), x.0 ∙ r.1)
+    (subst C (sym e) (subst T (sym (tight-more n false calls a)) (subst G (sym (given-more n (up_to n) calls a)) (subst Z r.1 h))), x.net ∙ r.1)
 
 pub take-asked : (calls : List PlanCall) (k : ℕ) (d : PlanCall) → k < length calls → take (k + 1) (map asked calls) ≡ take k (map asked calls) ++ (asked (get_or calls k d) ∷ [])
 take-asked calls k d h =

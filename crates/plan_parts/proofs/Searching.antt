@@ -1,13 +1,12 @@
 -- What the marks of a search say of the stations: those marked are reached; of those whose neighbours were looked at,
 -- each neighbour that passes is marked, and none is b.
-use Rattle.std.proofs.Common.{◌≡◌, ℕ, zero, suc, ◌+◌, ◌-◌, ◌<◌, ◌≤◌, Bool, true, false, cond, ◌&&◌, eqb, ltb, ◌≢◌, List, ◌++◌, length, get_or, drop, set, replicate, sym, ap, ◌∙◌, inl, inr, ⊎_elim, arith, get_or-set_other, get_or-set_same}
-use Rattle.std.proofs.lemmas.List.{drop_at, drop-set-lt, ext_get_or, get_or_append_left, get_or-drop, get_or-replicate, length-append, length-drop, length-replicate}
+use Rattle.std.proofs.Common.{◌≡◌, ℕ, zero, suc, ◌+◌, ◌<◌, ◌≤◌, Bool, true, false, cond, ◌&&◌, eqb, ltb, ◌≢◌, List, length, get_or, set, sym, ap, ◌∙◌, inr, ⊎_elim, arith, get_or-set_other, get_or-set_same}
 use Rattle.std.proofs.lemmas.Bool.{and_parts, both_ways, cases_eq, eq-eqb}
 use Rattle.std.proofs.lemmas.Bool.Decides.{nat_tests}
 use Rattle.network.specs.Bits.{count_to}
 use Rattle.network.proofs.Bits.{count_to-same}
 use Rattle.elimination.specs.Graphs.{Graph}
-use Rattle.plan_parts.specs.Boards.{cleared, found}
+use Rattle.plan_parts.specs.Boards.{found}
 use Rattle.plan_parts.proofs.Reaching.{PathTo, Reached, reached-more, never-reached}
 
 -- the station k is marked
@@ -39,54 +38,9 @@ one_fewer p q (suc n) s same h e g = ⊎_elim last (λ (ne : s ≡ n → ⊥). b
     before : (s ≡ n → ⊥) → count_to p n < count_to q n → count_to p n + cond (p n) 1 0 < count_to q n + cond (q n) 1 0
     before ne ih = let z = same n (λ i. ne (sym i)) in simp z (omega arith)
 
--- ---- cleared boards
-
-cleared-mark : (n : ℕ) (board : List ℕ) (k : ℕ) → k < n → get_or (cleared n board) k 0 ≡ 0
-cleared-mark n board k h =
-    let l : length (replicate {A = ℕ} n 0) ≡ n = length-replicate n 0 in
-    get_or_append_left (replicate n 0) (drop n board) 0 k (omega arith) ∙ get_or-replicate n k 0 0 h
-
-cleared-long : (n : ℕ) (board : List ℕ) → n ≤ length (cleared n board)
-cleared-long n board = simp (length-append, length-replicate) (omega arith)
-
-cleared-twice : (n : ℕ) (board : List ℕ) → cleared n (cleared n board) ≡ cleared n board
-cleared-twice n board = ap (λ (bs : List ℕ). replicate n 0 ++ bs) (drop_at (replicate n 0) (drop n board) n (length-replicate n 0))
-
-pub cleared-set : (n : ℕ) (board : List ℕ) (k v : ℕ) → k < n → cleared n (set board k v) ≡ cleared n board
-cleared-set n board k v h = ap (λ (bs : List ℕ). replicate n 0 ++ bs) (drop-set-lt n board k v h)
-
--- a search that began on a cleared board leaves the rest as it was
-pub cleared-begun : (n : ℕ) (board start : List ℕ) (a : ℕ) → a < n → start ≡ cleared n board → cleared n (set start a 1) ≡ cleared n board
-cleared-begun n board start a h e = cleared-set n start a 1 h ∙ ap (cleared n) e ∙ cleared-twice n board
-
-pub cleared-same : (n : ℕ) (old new : List ℕ) → length new ≡ length old → ((k : ℕ) → n ≤ k → get_or new k 0 ≡ get_or old k 0) → cleared n new ≡ cleared n old
-cleared-same n old new e f =
-    ap (λ (bs : List ℕ). replicate n 0 ++ bs)
-    (ext_get_or 0 (drop n new) (drop n old) (length-drop n new ∙ ap (λ (m : ℕ). m - n) e ∙ sym (length-drop n old))
-    (λ k h. get_or-drop n new k 0 ∙ f (n + k) (omega arith) ∙ sym (get_or-drop n old k 0)))
-
 -- ---- the search
 
 module _ (G : Graph) (p : ℕ → Bool) (n a b : ℕ) where
-  -- a alone is found
-  pub search-begun : (board : List ℕ) → a < n → Search G p n a b (set (cleared n board) a 1)
-  search-begun board ha = record { begun = λ e. omega (arith, own); sound = sound; looked = looked }
-    where
-      own : get_or (set (cleared n board) a 1) a 0 ≡ 1
-      own = get_or-set_same (cleared n board) a 1 0 (omega (arith, cleared-long n board))
-
-      other : (k : ℕ) → k < n → k ≢ a → get_or (set (cleared n board) a 1) k 0 ≡ 0
-      other k h ne = get_or-set_other (cleared n board) a k 1 0 ne ∙ cleared-mark n board k h
-
-      sound : (k : ℕ) → k < n → Seen (set (cleared n board) a 1) k → Reached G p a k
-      sound k h seen = ⊎_elim (λ (e : k ≡ a). inl e) (λ (ne : k ≡ a → ⊥). absurd (seen (other k h ne))) (cases_eq k a)
-
-      looked : (k t : ℕ) → k < n → Seen (set (cleared n board) a 1) k → get_or (set (cleared n board) a 1) k 0 ≢ 1 → G k t ≡ true → (t ≢ b) × (p t ≡ true → Seen (set (cleared n board) a 1) t)
-      looked k t h seen ne g =
-          ⊎_elim (λ (e : k ≡ a). absurd (ne (ap (λ (j : ℕ). get_or (set (cleared n board) a 1) j 0) e ∙ own)))
-          (λ (d : k ≡ a → ⊥). absurd (seen (other k h d)))
-          (cases_eq k a)
-
   module _ (board : List ℕ) (q : Search G p n a b board) where
     -- a station that was found has a path to each of its neighbours
     pub search-found : (s : ℕ) → s < n → found board s ≡ true → G s b ≡ true → PathTo G p a b

@@ -2,6 +2,7 @@ pub mod Layout
 pub mod OrderLists
 pub mod Reserves
 pub mod ReserveView
+pub mod ColumnWalk
 pub mod ReserveLaws
 pub mod Plans
 pub mod PlanStates

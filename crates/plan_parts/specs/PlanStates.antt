@@ -60,10 +60,10 @@ pub data Question : Type 0 where
 
 -- what is called on a plan that is open
 pub data Asked : Type 0 where
-  load : List ℕ → Asked
-  tighten : Asked
-  seat : ℕ → Asked
-  freeze : Asked
+  load_call : List ℕ → Asked
+  tighten_call : Asked
+  seat_call : ℕ → Asked
+  freeze_call : Asked
   question : Question → Asked
 
 -- ---- histories
@@ -74,46 +74,45 @@ pub data PlanHistory : List Asked → List ℕ → Bool → PlanState → Type 0
   opened : (net : Net) → Lawful net → PlanHistory [] (up_to net.size) false (opening net)
   -- a list that is an order is taken, and is the order last given from then on
   loaded : {calls : List Asked} {given : List ℕ} {tight : Bool} {s : PlanState} → PlanHistory calls given tight s
-      → (xs : List ℕ) → Order s.net.size xs → PlanHistory (calls ++ (load xs ∷ [])) xs false (with_order s xs)
+      → (xs : List ℕ) → Order s.net.size xs → PlanHistory (calls ++ (load_call xs ∷ [])) xs false (with_order s xs)
   -- a list that is none is refused, and gives nothing
   load_refused : {calls : List Asked} {given : List ℕ} {tight : Bool} {s : PlanState} → PlanHistory calls given tight s
-      → (xs : List ℕ) → (Order s.net.size xs → ⊥) → PlanHistory (calls ++ (load xs ∷ [])) given tight (one_refused s)
+      → (xs : List ℕ) → (Order s.net.size xs → ⊥) → PlanHistory (calls ++ (load_call xs ∷ [])) given tight (one_refused s)
   tightened : {calls : List Asked} {given : List ℕ} {tight : Bool} {s : PlanState} → PlanHistory calls given tight s
-      → (ys : List ℕ) → Tightens s.net s.order ys → PlanHistory (calls ++ (tighten ∷ [])) given true (with_order s ys)
+      → (ys : List ℕ) → Tightens s.net s.order ys → PlanHistory (calls ++ (tighten_call ∷ [])) given true (with_order s ys)
   seated : {calls : List Asked} {given : List ℕ} {tight : Bool} {s : PlanState} → PlanHistory calls given tight s
       → (station : ℕ) → station < s.net.size → (ys : List ℕ) → Seats s.net station s.order ys
-      → PlanHistory (calls ++ (seat station ∷ [])) given tight (with_order s ys)
+      → PlanHistory (calls ++ (seat_call station ∷ [])) given tight (with_order s ys)
   -- a number that is no station is refused
   seat_refused : {calls : List Asked} {given : List ℕ} {tight : Bool} {s : PlanState} → PlanHistory calls given tight s
-      → (station : ℕ) → s.net.size ≤ station → PlanHistory (calls ++ (seat station ∷ [])) given tight (one_refused s)
+      → (station : ℕ) → s.net.size ≤ station → PlanHistory (calls ++ (seat_call station ∷ [])) given tight (one_refused s)
   frozen : {calls : List Asked} {given : List ℕ} {tight : Bool} {s : PlanState} → PlanHistory calls given tight s
-      → PlanHistory (calls ++ (freeze ∷ [])) given tight s
+      → PlanHistory (calls ++ (freeze_call ∷ [])) given tight s
   -- a question that is answered, and one that is refused
   asked : {calls : List Asked} {given : List ℕ} {tight : Bool} {s : PlanState} → PlanHistory calls given tight s
       → (q : Question) → PlanHistory (calls ++ (question q ∷ [])) given tight s
 
 -- the order last given, after one more call on a plan of n stations
 abbrev pub given_after : ℕ → Asked → List ℕ → List ℕ
-given_after n (load xs) given = cond (is_order n xs) xs given
-given_after n tighten given = given
-given_after n (seat station) given = given
-given_after n freeze given = given
+given_after n (load_call xs) given = cond (is_order n xs) xs given
+given_after n tighten_call given = given
+given_after n (seat_call station) given = given
+given_after n freeze_call given = given
 given_after n (question q) given = given
 
 -- whether tighten was called since an order was given, after one more call
 abbrev pub tight_after : ℕ → Asked → Bool → Bool
-tight_after n (load xs) tight = cond (is_order n xs) false tight
-tight_after n tighten tight = true
-tight_after n (seat station) tight = tight
-tight_after n freeze tight = tight
+tight_after n (load_call xs) tight = cond (is_order n xs) false tight
+tight_after n tighten_call tight = true
+tight_after n (seat_call station) tight = tight
+tight_after n freeze_call tight = tight
 tight_after n (question q) tight = tight
 
 -- a call turned one plan into the other: the network stays, and every history of the one goes on to a history of the other
-abbrev pub Extends : Asked → PlanState → PlanState → Type 0
-Extends call before after =
-    (after.net ≡ before.net)
-    × ((calls : List Asked) (given : List ℕ) (tight : Bool) → PlanHistory calls given tight before
-    → PlanHistory (calls ++ (call ∷ [])) (given_after before.net.size call given) (tight_after before.net.size call tight) after)
+pub record Extends (call : Asked) (before after : PlanState) : Type 0 where
+  pub net : after.net ≡ before.net
+  pub history : (calls : List Asked) (given : List ℕ) (tight : Bool) → PlanHistory calls given tight before
+      → PlanHistory (calls ++ (call ∷ [])) (given_after before.net.size call given) (tight_after before.net.size call tight) after
 
 -- a question was asked of a plan, and left it as it was
 abbrev pub Asks : Question → PlanState → Type 0

@@ -5,4 +5,4 @@ use Rattle.plan_parts.specs.declared.plan.Plan.{Plan}
 
 -- its network, its order and its refused number
 abbrev pub view : Plan → PlanState
-view p = record { net = record { size = p.order.size; coupled = graph p.couplings }; order = listed p.order; refused = p.refused }
+view p = record { net = record { size = p.elimination.order.size; coupled = graph p.elimination.couplings }; order = listed p.elimination.order; refused = p.refused }

@@ -1,22 +1,11 @@
 -- What every reserve keeps, over its filled pairs by positions and its number of stations.
-use Rattle.std.specs.Prelude.{◌≡◌, ℕ, ◌-◌, ◌<◌, ◌≤◌, Bool, true, false, cond, ◌&&◌, List, length, Err, Option, Result, nat_lt, slice_index}
+use Rattle.std.specs.Prelude.{◌≡◌, ℕ, ◌-◌, ◌≤◌, Bool, cond, ◌&&◌, List, length, Err, Option, Result, nat_lt, slice_index}
 use Rattle.network.specs.Net.{first_from}
 use Rattle.network.specs.Refusals.{Fault, at}
 use Rattle.elimination.specs.Graphs.{Graph}
+pub use Rattle.elimination.specs.Graphs.{Symmetric, Irreflexive, Below}
 use Rattle.elimination.specs.Orders.{position_of}
 use Rattle.plan_parts.specs.Layout.{in_column, place_for, start}
-
--- a pair is unordered
-abbrev pub Symmetric : Graph → Type 0
-Symmetric F = (i j : ℕ) → F i j ≡ F j i
-
--- no position is paired with itself
-abbrev pub Irreflexive : Graph → Type 0
-Irreflexive F = (i : ℕ) → F i i ≡ false
-
--- only positions below n are paired
-abbrev pub Below : Graph → ℕ → Type 0
-Below F n = (i j : ℕ) → F i j ≡ true → (i < n) × (j < n)
 
 -- each column begins where the columns before it end; the last number is where all of them end
 abbrev pub Begins : Graph → ℕ → List ℕ → Type 0

@@ -12,6 +12,7 @@ pub use plan::laws::fill_within_given_and_least_once_tightened;
 pub use plan::plan_call::PlanCall;
 pub use plan::replay::replay_plan;
 pub use reserve::Reserve;
+pub use reserve::column::Column;
 pub use reserve::laws::{
     filled_pairs_are_grounded, filled_places_are_closed, places_for_filled_pairs,
     places_have_no_gap,

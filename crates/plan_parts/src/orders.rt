@@ -10,15 +10,25 @@ ghost use Rattle.plan_parts.specs.Reserves.{known};
 use elimination::EliminationOrder;
 use network::Refusal;
 
+/// Refuses a number that is not below `n`.
+pub(crate) fn in_range(number: u16, n: u16) -> Result<(), Refusal>
+    ensures value { outcome result ≡ known n number (Ok tt) }
+    ensures below { IfOk result (λ _. number < n) }
+{
+    if number < n {
+        Ok(())
+    } else {
+        Err(Refusal::OutOfRange(number))
+    }
+}
+
 /// The position of a station in the order.
 pub(crate) fn position_in(order: &EliminationOrder, station: u16) -> Result<u16, Refusal>
     ensures value { outcome result ≡ known order.now.size station (Ok (position_of (listed order.now) station)) }
     ensures there { IfOk result (λ k. slice_index (listed order.now) k ≡ station) }
     ensures small { IfOk result (λ k. k < order.now.size) }
 {
-    if station >= order.size() {
-        return Err(Refusal::OutOfRange(station));
-    }
+    in_range(station, order.size())?;
     Ok(order.position(station))
 }
 
@@ -27,9 +37,7 @@ pub(crate) fn station_in(order: &EliminationOrder, position: u16) -> Result<u16,
     ensures value { outcome result ≡ known order.now.size position (Ok (slice_index (listed order.now) position)) }
     ensures small { IfOk result (λ s. s < order.now.size) }
 {
-    if position >= order.size() {
-        return Err(Refusal::OutOfRange(position));
-    }
+    in_range(position, order.size())?;
     Ok(order.station(position))
 }
 
@@ -38,12 +46,10 @@ pub(crate) fn write_order(order: &EliminationOrder, out: &mut [u16]) -> Result<(
     ensures value { outcome result ≡ room_for order.now.size out.old }
     ensures written { out.new ≡ order_written order.now.size (listed order.now) out.old }
 {
-    let size = order.size();
-    if out.len() < size as usize {
-        return Err(Refusal::TooShort(size as usize));
+    let stations = order.stations();
+    if out.len() < stations.len() {
+        return Err(Refusal::TooShort(stations.len()));
     }
-    for k in 0..size {
-        out[k as usize] = order.station(k);
-    }
+    out[..stations.len()].copy_from_slice(stations);
     Ok(())
 }

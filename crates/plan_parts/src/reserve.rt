@@ -8,6 +8,7 @@ ghost use Rattle.plan_parts.specs.Reserves.{Begins, Below, Irreflexive, Symmetri
 use elimination::{EliminationOrder, PairSet};
 
 mod calls;
+pub(crate) mod column;
 pub(crate) mod laws;
 mod parts;
 
@@ -16,6 +17,7 @@ mod parts;
 pub struct Reserve {
     order: EliminationOrder,
     pairs: PairSet,
+    // Memory is fixed: 512 columns at most, and the end of the last.
     starts: [u32; 513],
     ghost some: { 1 ≤ order.size },
     ghost symmetric: { Symmetric (graph pairs) },

@@ -1,24 +1,28 @@
 -- How each call carries the histories of a run on, with tables that hold the square.
-use Rattle.std.proofs.Common.{◌≡◌, ℕ, ◌+◌, ◌<◌, ◌≤◌, true, cond, ◌||◌, ltb, List, length, get_or, set, is_some, Some, None, Ok, Err, Option, Result, sym, refl, ap, ◌∙◌, inl, inr, arith, length-set}
+use Rattle.std.proofs.Common.{◌≡◌, ℕ, ◌+◌, ◌<◌, ◌≤◌, Bool, true, false, cond, ◌||◌, ltb, List, length, get_or, set, is_some, Some, None, Ok, Err, Option, Result, sym, refl, ap, ◌∙◌, inl, inr, arith, length-set}
 use Rattle.std.specs.List.{slice_get}
-use Rattle.std.proofs.lemmas.Bool.{cases_Bool, cases_eq, eq-eqb, ne_eqb, ltb-true, lt-ltb, le-ltb, both_ways}
+use Rattle.std.proofs.lemmas.Bool.{cases_eq, eq-eqb, ne_eqb, ltb-true, both_ways}
 use Rattle.std.proofs.lemmas.Bool.Decides.{nat_tests}
 use Rattle.elimination.specs.Graphs.{Graph}
 use Rattle.plan_parts.specs.Layout.{places, place_for, cell, Closed}
-use Rattle.network.specs.Refusals.{Fault, at}
+use Rattle.network.specs.Refusals.{Fault}
 use Rattle.plan_parts.specs.Reserves.{known, place_of_stations}
 use Rattle.plan_parts.proofs.Numbering.{cell_below}
 use Rattle.run_parts.specs.Kinds.{Kind}
-use Rattle.run_parts.specs.Square.{Square, pivot, pivotal, single, with_entry, beyond}
-use Rattle.run_parts.specs.Tables.{square_of, held_entry, Room, Within}
+use Rattle.run_parts.specs.Square.{Square, empty, pivot, pivotal, single, with_entry, beyond}
+use Rattle.run_parts.specs.Tables.{square_of, held_entry, entries_over, marks_over, zeroed, Room, Within}
 use Rattle.run_parts.specs.Parts.{Pivoted}
-use Rattle.run_parts.specs.Outcomes.{roomy, checked_place_of, put_outcome, pivot_outcome, step_outcome}
+use Rattle.run_parts.specs.Outcomes.{roomy, checked_place_of, pivot_outcome, step_outcome}
 use Rattle.run_parts.specs.Laws.{AnswersAreThoseOfTheSquare}
 use Rattle.run_parts.specs.Histories.{RunHistory, Agrees, row_of, column_of}
-use Rattle.run_parts.specs.Histories.Stage.{loading, running}
-use Rattle.run_parts.specs.Histories.RunHistory.{put, stepped}
-use Rattle.run_parts.proofs.Parts.{part-like, set-square, square-some, square-none, nth-some, cell-within}
+use Rattle.run_parts.specs.Histories.Stage.{loading, running, ended}
+use Rattle.run_parts.specs.Histories.RunHistory.{started, put, begun, stepped, finished}
+use Rattle.run_parts.proofs.Parts.{part-like, set-square, square-some, square-none, nth-some, cell_within}
 use Rattle.run_parts.proofs.Histories.{only-places}
+use Rattle.run_parts.proofs.Written.{entries-written, marks-written}
+use Rattle.run_parts.proofs.Zeroes.{zeroed-agrees}
+use Rattle.plan_parts.specs.declared.reserve.Reserve.{Reserve}
+use Rattle.plan_parts.specs.ReserveView.{filled_in, order_in, size_in}
 
 module _ {E : Type 0} (F : Graph) (n : ℕ) (es : List E) (ms : List ℕ) (sq : Square E) where
   -- tables that hold a square, which holds entries only at places, are that square
@@ -30,7 +34,7 @@ module _ {E : Type 0} (F : Graph) (n : ℕ) (es : List E) (ms : List ℕ) (sq : 
       at None here (Some e) h = absurd (both_ways (is_some (cell F n i j)) (ap is_some here) (within i j (ap is_some h)))
       at (Some p) here None h = square-some F n i j es ms p here ∙ simp (eq-eqb _ _ (agrees.marked i j p here h)) (sym h)
       at (Some p) here (Some e) h = elim (cases_eq (get_or ms p 0) 0) [
-        | inl z ↦ (let x : None ≡ Some e = sym (agrees.unmarked i j p here z) ∙ h in let y : ◌≡◌ {A = ℕ} 0 1 = cc in absurd (omega arith))
+        | inl z ↦ (let x : None ≡ Some e = sym (agrees.unmarked i j p here z) ∙ h in cc)
         | inr d ↦ square-some F n i j es ms p here ∙ simp (ne_eqb _ _ d) (agrees.same i j p e here h ∙ sym h)
       ]
 
@@ -44,13 +48,13 @@ module _ {E : Type 0} (F : Graph) (n : ℕ) (es : List E) (ms : List ℕ) (sq : 
           (let x = nth-some es p (omega (arith, cell_below F n i j p here, room.0)) in
           let e : slice_get es p ≡ held_entry es ms p = simp (ne_eqb _ _ d) in
           let w : Some x.0 ≡ None = sym x.1 ∙ e ∙ at i j p here ∙ none in
-          let y : ◌≡◌ {A = ℕ} 0 1 = cc in absurd (omega arith))
+          cc)
     ];
     same = λ i j p e here some. elim (cases_eq (get_or ms p 0) 0) [
       | inl z ↦
           (let x : None ≡ held_entry es ms p = simp (eq-eqb _ _ z) in
           let w : None ≡ Some e = x ∙ at i j p here ∙ some in
-          let y : ◌≡◌ {A = ℕ} 0 1 = cc in absurd (omega arith))
+          cc)
       | inr d ↦ (let x : slice_get es p ≡ held_entry es ms p = simp (ne_eqb _ _ d) in x ∙ at i j p here ∙ some)
     ];
   }
@@ -84,6 +88,15 @@ module _ {E : Type 0} (K : Kind E) (F : Graph) (n : ℕ) (xs : List ℕ) (closed
         agrees-square F n es' ms' (pivot K k sq) room' (λ i j. pivoted.square i j ∙ part-like K k (beyond k) (beyond k) (square_of F n es ms) sq same i j refl),
       )
 
+-- an answer behind a test shows that the test was passed
+passed_test : {X : Type 0} (b : Bool) (r : Result X Fault) (f : Fault) (x : X) → Ok x ≡ cond b r (Err f) → (b ≡ true) × (Ok x ≡ r)
+passed_test true r f x h = (refl, h)
+passed_test false r f x h = cc
+
+found_none : {X : Type 0} (b : Bool) (r : Result X Fault) (f : Fault) (x : X) → Ok x ≡ cond b (Err f) r → (b ≡ false) × (Ok x ≡ r)
+found_none true r f x h = cc
+found_none false r f x h = (refl, h)
+
 -- what a checked place says
 pub record Checked (F : Graph) (n : ℕ) (xs : List ℕ) (entries marks a b : ℕ) (o : Option ℕ) : Type 0 where
   pub first : a < n
@@ -93,35 +106,28 @@ pub record Checked (F : Graph) (n : ℕ) (xs : List ℕ) (entries marks a b : �
   pub place : o ≡ place_of_stations F n xs a b
 
 pub checked : (F : Graph) (n : ℕ) (xs : List ℕ) (entries marks a b : ℕ) (o : Option ℕ) → Ok o ≡ checked_place_of F n xs entries marks a b → Checked F n xs entries marks a b o
-checked F n xs entries marks a b o h = elim (cases_Bool (ltb a n)) [
-  | inr f ↦ (let e : Ok o ≡ Err (at 15 a) = simp f at h in let z : ◌≡◌ {A = ℕ} 0 1 = cc in absurd (omega arith))
-  | inl s ↦ elim (cases_Bool (ltb b n)) [
-    | inr f ↦ (let e : Ok o ≡ Err (at 15 b) = simp (s, f) at h in let z : ◌≡◌ {A = ℕ} 0 1 = cc in absurd (omega arith))
-    | inl t ↦ elim (cases_Bool (ltb entries (places F n) || ltb marks (places F n))) [
-      | inl f ↦ (let e : Ok o ≡ Err (at 17 (places F n)) = simp (s, t, f) at h in let z : ◌≡◌ {A = ℕ} 0 1 = cc in absurd (omega arith))
-      | inr u ↦
-          (let e : Ok o ≡ Ok (place_of_stations F n xs a b) = simp (s, t, u) at h in
-          record { first = ltb-true a n s; second = ltb-true b n t; entries_long = grind (arith, nat_tests); marks_long = grind (arith, nat_tests); place = cc })
-    ]
-  ]
-]
+checked F n xs entries marks a b o h =
+    let p = passed_test (ltb a n) _ _ o h in
+    let q = passed_test (ltb b n) _ _ o p.1 in
+    let r = found_none (ltb entries (places F n) || ltb marks (places F n)) _ _ o q.1 in
+    let short : ltb entries (places F n) || ltb marks (places F n) ≡ false = r.0 in
+    let e : Ok o ≡ Ok (place_of_stations F n xs a b) = r.1 in
+    record { first = ltb-true a n p.0; second = ltb-true b n q.0; entries_long = grind (arith, nat_tests); marks_long = grind (arith, nat_tests); place = cc }
 
-pub place-within : {E : Type 0} (F : Graph) (n : ℕ) (xs : List ℕ) (a b : ℕ) (es : List E) (ms : List ℕ) (o : Option ℕ) → o ≡ place_of_stations F n xs a b → Room F n es ms → Within (length es) (length ms) o
+-- the place of two known stations lies within tables that have room
+pub placed_within : {E : Type 0} (F : Graph) (n : ℕ) (xs : List ℕ) (a b : ℕ) (es : List E) (ms : List ℕ) (o : Option ℕ)
+    → Ok o ≡ known n a (known n b (Ok (place_of_stations F n xs a b))) → Room F n es ms → Within (length es) (length ms) o
 unfolding place_for
-place-within F n xs a b = cell-within F n (row_of xs a b) (column_of xs a b)
-
--- with room nothing is refused by 17
-pub roomy-ok : {X : Type 0} (need entries marks : ℕ) (r : Result X Fault) → need ≤ entries → need ≤ marks → roomy need entries marks r ≡ r
-roomy-ok need entries marks r he hm = simp (le-ltb entries need he, le-ltb marks need hm)
-
--- a put of two known stations that have a place
-pub put-ok : (F : Graph) (n : ℕ) (xs : List ℕ) (entries marks a b p : ℕ) → a < n → b < n → places F n ≤ entries → places F n ≤ marks → place_of_stations F n xs a b ≡ Some p → put_outcome F n xs entries marks a b ≡ Ok tt
-put-ok F n xs entries marks a b p la lb he hm here = simp (lt-ltb a n la, lt-ltb b n lb, le-ltb entries (places F n) he, le-ltb marks (places F n) hm, here)
+placed_within F n xs a b es ms o h room =
+    let p = passed_test (ltb a n) _ _ o h in
+    let e : Ok o ≡ Ok (place_of_stations F n xs a b) = (passed_test (ltb b n) _ _ o p.1).1 in
+    let place : o ≡ place_of_stations F n xs a b = cc in
+    cell_within F n (row_of xs a b) (column_of xs a b) es ms o place room
 
 -- what entry answers and step decides, by the square
-pub by-square : {E : Type 0} (K : Kind E) → AnswersAreThoseOfTheSquare K
+pub by_square : {E : Type 0} (K : Kind E) → AnswersAreThoseOfTheSquare K
 unfolding square_of place_for
-by-square {E} K F n xs stage k sq P es ms closed h agrees = (
+by_square {E} K F n xs stage k sq P es ms closed h agrees = (
   λ a b. ap (λ (o : Option E). known n a (known n b (roomy (places F n) (length es) (length ms) (Ok o)))) (same (row_of xs a b) (column_of xs a b)),
   λ made. ap (λ (o : Option E). step_outcome K (places F n) (length es) (length ms) n made o) (same made made),
 )
@@ -131,7 +137,50 @@ by-square {E} K F n xs stage k sq P es ms closed h agrees = (
 
 -- a pivot that was made could be made
 pub pivot-made : {E : Type 0} (K : Kind E) (k : ℕ) (o : Option E) (x : Unit {0}) → Ok x ≡ pivot_outcome K k o → pivotal K o ≡ true
-pivot-made K k o x h = elim (cases_Bool (pivotal K o)) [
-  | inl t ↦ t
-  | inr f ↦ (let e : Ok x ≡ Err (at 19 k) = simp f at h in let z : ◌≡◌ {A = ℕ} 0 1 = cc in absurd (omega arith))
-]
+pivot-made K k o x h = (passed_test (pivotal K o) _ _ x h).0
+
+-- how a run turns to its next stage
+pub begins : {E : Type 0} (K : Kind E) (F : Graph) (n : ℕ) (xs : List ℕ) (sq : Square E) (P : Graph) → RunHistory K F n xs loading 0 sq P → RunHistory K F n xs running 0 sq P
+begins K F n xs sq P h = begun h
+
+pub finishes : {E : Type 0} (K : Kind E) (F : Graph) (n : ℕ) (xs : List ℕ) (k : ℕ) (sq : Square E) (P : Graph) → RunHistory K F n xs running k sq P → RunHistory K F n xs ended k sq P
+finishes K F n xs k sq P h = finished h
+
+-- what a start leaves
+pub starts : {E : Type 0} (K : Kind E) (F : Graph) (n : ℕ) (xs : List ℕ) → RunHistory K F n xs loading 0 empty (λ i j. false)
+starts K F n xs = started
+
+pub empty_agrees : {E : Type 0} (F : Graph) (n : ℕ) (es : List E) (ms ms' : List ℕ) → ms' ≡ zeroed (places F n) ms → Agrees F n es ms' empty
+empty_agrees F n es ms ms' e = rw e (zeroed-agrees F n es ms)
+
+-- what a put leaves that was not refused
+module _ {E : Type 0} (K : Kind E) (R : Reserve) (a b p : ℕ) (e : E) (es : List E) (ms : List ℕ) (sq : Square E) (P : Graph) (o : Option ℕ)
+    (known : Ok o ≡ checked_place_of (filled_in R) (size_in R) (order_in R) (length es) (length ms) a b) (there : o ≡ Some p)
+    (h : RunHistory K (filled_in R) (size_in R) (order_in R) loading 0 sq P) (agrees : Agrees (filled_in R) (size_in R) es ms sq) where
+  pub put-done : RunHistory K (filled_in R) (size_in R) (order_in R) loading 0 (with_entry sq (row_of (order_in R) a b) (column_of (order_in R) a b) e) (λ i j. P i j || single (row_of (order_in R) a b) (column_of (order_in R) a b) i j)
+      × Agrees (filled_in R) (size_in R) (set es p e) (set ms p 1) (with_entry sq (row_of (order_in R) a b) (column_of (order_in R) a b) e)
+  put-done =
+      let c = checked (filled_in R) (size_in R) (order_in R) (length es) (length ms) a b o known in
+      put-goes K (filled_in R) (size_in R) (order_in R) R.closed es ms (c.entries_long, c.marks_long) (set es p e) (set ms p 1) sq P a b p e c.first c.second (sym c.place ∙ there) refl refl h agrees
+
+-- what a step leaves that made its pivot
+pub entries_after : {E : Type 0} (K : Kind E) (F : Graph) (n k : ℕ) (es : List E) (ms : List ℕ) (es' : List E) (ms' : List ℕ) → Room F n es ms → Pivoted K F n k (beyond k) es ms es' ms'
+    → es' ≡ entries_over F n (pivot K k (square_of F n es ms)) es
+entries_after K F n k es ms es' ms' room p = entries-written F n (pivot K k (square_of F n es ms)) es ms es' ms' room p.kept p.square
+
+pub marks_after : {E : Type 0} (K : Kind E) (F : Graph) (n k : ℕ) (es : List E) (ms : List ℕ) (es' : List E) (ms' : List ℕ) → Room F n es ms → Pivoted K F n k (beyond k) es ms es' ms'
+    → ms' ≡ marks_over F n (pivot K k (square_of F n es ms)) ms
+marks_after K F n k es ms es' ms' room p = marks-written F n (pivot K k (square_of F n es ms)) es ms es' ms' room p.kept p.square
+
+module _ {E : Type 0} (K : Kind E) (R : Reserve) (k : ℕ) (es : List E) (ms : List ℕ) (es' : List E) (ms' : List ℕ) (sq : Square E) (P : Graph)
+    (room : Room (filled_in R) (size_in R) es ms) (lt : k < size_in R) (made : Ok tt ≡ pivot_outcome K k (square_of (filled_in R) (size_in R) es ms k k))
+    (pivoted : Pivoted K (filled_in R) (size_in R) k (beyond k) es ms es' ms')
+    (h : RunHistory K (filled_in R) (size_in R) (order_in R) running k sq P) (agrees : Agrees (filled_in R) (size_in R) es ms sq) where
+  both : RunHistory K (filled_in R) (size_in R) (order_in R) running (k + 1) (pivot K k sq) P × Agrees (filled_in R) (size_in R) es' ms' (pivot K k sq)
+  both = step-goes K (filled_in R) (size_in R) (order_in R) R.closed es ms room es' ms' sq P k lt (pivot-made K k (square_of (filled_in R) (size_in R) es ms k k) tt made) pivoted h agrees
+
+  pub steps : (k' : ℕ) → k' ≡ k + 1 → RunHistory K (filled_in R) (size_in R) (order_in R) running k' (pivot K k sq) P
+  steps k' e = rw e both.0
+
+  pub pivot_agrees : Agrees (filled_in R) (size_in R) es' ms' (pivot K k sq)
+  pivot_agrees = both.1

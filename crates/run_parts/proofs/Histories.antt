@@ -18,9 +18,6 @@ some_is : {A : Type 0} (o : Option A) → is_some o ≡ true → (x : A) × (o �
 some_is None h = absurd (both_ways false refl h)
 some_is (Some x) h = (x, refl)
 
-none-some : {A : Type 0} (o : Option A) → is_some o ≡ true → o ≡ None → ⊥
-none-some o h e = both_ways (is_some o) (ap is_some e) h
-
 module _ {E : Type 0} (K : Kind E) where
   met-keeps : (o l p r : Option E) → is_some o ≡ true → is_some (met K o l p r) ≡ true
   met-keeps o None p r h = h

@@ -53,13 +53,13 @@ part-more K k D₁ D₂ D₃ S₀ S₁ S₂ away apart both one two a b = elim (
 -- nothing meets where left or right is empty
 pub met-no-left : {E : Type 0} (K : Kind E) (o l p r : Option E) → l ≡ None → met K o l p r ≡ o
 met-no-left K o None p r e = refl
-met-no-left K o (Some l) p r e = let z : ◌≡◌ {A = ℕ} 0 1 = cc in absurd (omega arith)
+met-no-left K o (Some l) p r e = cc
 
 pub met-no-right : {E : Type 0} (K : Kind E) (o l p r : Option E) → r ≡ None → met K o l p r ≡ o
 met-no-right K o None p r e = refl
 met-no-right K o (Some l) None r e = refl
 met-no-right K o (Some l) (Some p) None e = refl
-met-no-right K o (Some l) (Some p) (Some r) e = let z : ◌≡◌ {A = ℕ} 0 1 = cc in absurd (omega arith)
+met-no-right K o (Some l) (Some p) (Some r) e = cc
 
 -- a write
 pub nth-set-same : {E : Type 0} (xs : List E) (i : ℕ) (v : E) → i < length xs → slice_get (set xs i v) i ≡ Some v
@@ -90,7 +90,7 @@ set-square {E} F n i j p m es ms v here h g d a b = go (cell F n a b) refl
 
     go : (o : Option ℕ) → cell F n a b ≡ o → entry_of (set es p v) (set ms p m) o ≡ cond (eqb a i && eqb b j) (Some v) (entry_of es ms o)
     go None e = elim (cases_Bool (eqb a i && eqb b j)) [
-      | inl t ↦ (let s = at-cell t in let z : ◌≡◌ {A = ℕ} 0 1 = cc in absurd (omega arith))
+      | inl t ↦ (let s = at-cell t in cc)
       | inr f ↦ simp f
     ]
     go (Some q) e = elim (cases_eq q p) [
@@ -158,7 +158,7 @@ unfolding square_of
 held-cell {E} F n i j es ms x h = go (cell F n i j) refl
   where
     go : (o : Option ℕ) → cell F n i j ≡ o → (p : ℕ) × (cell F n i j ≡ Some p)
-    go None e = let z : None ≡ Some x = sym (ap (entry_of es ms) e) ∙ h in let y : ◌≡◌ {A = ℕ} 0 1 = cc in absurd (omega arith)
+    go None e = let z : None ≡ Some x = sym (ap (entry_of es ms) e) ∙ h in cc
     go (Some p) e = (p, e)
 
 pub square-some : {E : Type 0} (F : Graph) (n i j : ℕ) (es : List E) (ms : List ℕ) (p : ℕ) → cell F n i j ≡ Some p → square_of F n es ms i j ≡ held_entry es ms p
@@ -175,6 +175,6 @@ nth-some (x ∷ xs) zero h = (x, refl)
 nth-some (x ∷ xs) (suc i) h = nth-some xs i (omega arith)
 
 -- with room, every place lies within the tables
-pub cell-within : {E : Type 0} (F : Graph) (n i j : ℕ) (es : List E) (ms : List ℕ) (o : Option ℕ) → o ≡ cell F n i j → Room F n es ms → Within (length es) (length ms) o
-cell-within F n i j es ms None h room = tt
-cell-within F n i j es ms (Some p) h room = let lt = cell_below F n i j p (sym h) in (omega (arith, lt, room.0), omega (arith, lt, room.1))
+pub cell_within : {E : Type 0} (F : Graph) (n i j : ℕ) (es : List E) (ms : List ℕ) (o : Option ℕ) → o ≡ cell F n i j → Room F n es ms → Within (length es) (length ms) o
+cell_within F n i j es ms None h room = tt
+cell_within F n i j es ms (Some p) h room = let lt = cell_below F n i j p (sym h) in (omega (arith, lt, room.0), omega (arith, lt, room.1))

@@ -188,7 +188,7 @@ module _ {E : Type 0} (K : Kind E) (F : Graph) (n k : ℕ) where
       let b = held-cell F n j k es ms r hr in
       let x = closed-cell F n i j k a.0 b.0 closed kj ji a.1 b.1 in
       let y : None ≡ Some x.0 = sym none ∙ x.1 in
-      let z : ◌≡◌ {A = ℕ} 0 1 = cc in omega arith
+      cc
 
   -- a part leaves the column k alone
   pub row-away : (j i : ℕ) (es : List E) (ms : List ℕ) (es' : List E) (ms' : List ℕ) → k < j → Pivoted K F n k (in_one j i) es ms es' ms' → (a : ℕ) → square_of F n es' ms' a k ≡ square_of F n es ms a k

@@ -72,8 +72,8 @@ module _ {A V : Type 0} (write : ℕ → ℕ → A → A) (long : A → ℕ) (le
 
 same-nths : {E : Type 0} (xs ys : List E) → ((p : ℕ) → slice_get xs p ≡ slice_get ys p) → xs ≡ ys
 same-nths [] [] h = refl
-same-nths [] (y ∷ ys) h = let e = h 0 in let z : ◌≡◌ {A = ℕ} 0 1 = cc in absurd (omega arith)
-same-nths (x ∷ xs) [] h = let e = h 0 in let z : ◌≡◌ {A = ℕ} 0 1 = cc in absurd (omega arith)
+same-nths [] (y ∷ ys) h = let e = h 0 in cc
+same-nths (x ∷ xs) [] h = let e = h 0 in cc
 same-nths (x ∷ xs) (y ∷ ys) h =
     let e : Some x ≡ Some y = h 0 in
     let rest = same-nths xs ys (λ p. h (suc p)) in
@@ -104,7 +104,7 @@ module _ {E : Type 0} (F : Graph) (n : ℕ) (S : Square E) (es : List E) (ms : L
     | inl z ↦
         (let w : held_entry es' ms' p ≡ None = simp (eq-eqb _ _ z) in
         let x : None ≡ Some e = sym w ∙ at_place i j p here ∙ h in
-        let y : ◌≡◌ {A = ℕ} 0 1 = cc in absurd (omega arith))
+        cc)
     | inr d ↦
         (let w : held_entry es' ms' p ≡ slice_get es' p = simp (ne_eqb _ _ d) in
         (cell_below F n i j p here, d, sym w ∙ at_place i j p here ∙ h))
@@ -128,7 +128,7 @@ module _ {E : Type 0} (F : Graph) (n : ℕ) (S : Square E) (es : List E) (ms : L
             (let x = nth-some es' p (omega (arith, cell_below F n i j p here, room.0, kept.entries)) in
             let v : held_entry es' ms' p ≡ slice_get es' p = simp (ne_eqb _ _ d) in
             let w : Some x.0 ≡ None = sym x.1 ∙ sym v ∙ at_place i j p here ∙ h in
-            let y : ◌≡◌ {A = ℕ} 0 1 = cc in absurd (omega arith))
+            cc)
       ]
 
   -- one write of an entry, and of a mark

@@ -2,6 +2,7 @@ pub mod Kinds
 pub mod Square
 pub mod Tables
 pub mod Parts
+pub mod Lent
 pub mod Outcomes
 pub mod Histories
 pub mod Places

@@ -1,102 +1,122 @@
 //! One pivot in the tables: the members of its column meet pairwise.
 //! The cost of a pivot is about the square of its column's length.
-ghost use Rattle.std.specs.Prelude.{◌≡◌, ◌<◌, ◌≤◌, Some, MatchResult};
+ghost use Rattle.std.specs.Prelude.{◌≡◌, ◌<◌, MatchResult};
 ghost use Rattle.network.specs.Refusals.{outcome};
 ghost use Rattle.plan_parts.specs.ReserveView.{filled_in, size_in};
-ghost use Rattle.run_parts.specs.Kinds.{kind};
 ghost use Rattle.run_parts.specs.Outcomes.{pivot_outcome};
-ghost use Rattle.run_parts.specs.Parts.{Pivoted, in_one};
-ghost use Rattle.run_parts.specs.Square.{beyond, single};
+ghost use Rattle.run_parts.specs.Parts.{Pivoted};
+ghost use Rattle.run_parts.specs.Square.{beyond};
 ghost use Rattle.run_parts.specs.Tables.{Room, square_of};
 
 use crate::kinds::Entry;
-use crate::tables::{held, take};
+use crate::tables::{EMPTY, HELD, entry_at};
 use network::Refusal;
 use plan_parts::Reserve;
 
-/// Pivot `k` at row `i` and column `j`.
-fn meet<E: Entry>(
-    reserve: &Reserve,
-    entries: &mut [E],
-    marks: &mut [u8],
-    k: usize,
-    i: usize,
-    j: usize,
-    pivot: E,
-    right: E,
-)
-    requires after { k < j }
-    requires row { j ≤ i }
-    requires room { Room (filled_in reserve.now) (size_in reserve.now) entries.old marks.old }
-    requires middle { square_of (filled_in reserve.now) (size_in reserve.now) entries.old marks.old k k ≡ Some pivot }
-    requires side { square_of (filled_in reserve.now) (size_in reserve.now) entries.old marks.old j k ≡ Some right }
-    ensures { Pivoted (kind E.Entry.usable E.Entry.first E.Entry.more) (filled_in reserve.now) (size_in reserve.now) k (single i j) entries.old marks.old entries.new marks.new }
-{
-    let Some(left) = held(reserve, entries, marks, i, k) else {
-        return;
-    };
-    if let Some(p) = reserve.cell(i, j) {
-        take(entries, marks, p, left, pivot, right);
+/// The two tables of a run, with room for every place of its reserve.
+#[derive(Drop)]
+struct Tables<'r, 't, E> {
+    reserve: &'r Reserve,
+    entries: &'t mut [E],
+    marks: &'t mut [u8],
+    ghost room: { Room (filled_in reserve.now) (size_in reserve.now) entries.now marks.now },
+}
+
+// The pivot's number and entry are parameters: that the tables hold that entry there is a fact of what they hold at the time.
+impl<E: Entry> Tables<'_, '_, E> {
+    ghost use Rattle.std.specs.Prelude.{◌≤◌, Some, if◌then◌else◌, nat_eq, slice_index, slice_set};
+    ghost use Rattle.run_parts.specs.Lent.{Makes, SameLent, square_in};
+    ghost use Rattle.run_parts.specs.Parts.{in_one};
+    ghost use Rattle.run_parts.specs.Places.{places_in};
+    ghost use Rattle.run_parts.specs.Square.{single, taken};
+    ghost use Rattle.run_parts.specs.Tables.{held_entry};
+
+    /// What the tables hold at row `i` and column `j`.
+    #[tactic(auto, using(crate::proofs::Parts::cell_within), unfolding(crate::specs::Tables::square_of))]
+    fn held(&self, i: usize, j: usize) -> Option<E>
+        ensures { result ≡ square_in self.now i j }
+    {
+        entry_at(self.entries, self.marks, self.reserve.cell(i, j))
+    }
+
+    /// The place `p` takes first if it is empty, more if it is held.
+    fn take(&mut self, p: usize, left: E, pivot: E, right: E)
+        requires { p < places_in self.old.reserve.now }
+        ensures lent { SameLent self.old self.new }
+        ensures entries { self.new.entries.now ≡ slice_set self.old.entries.now p (taken E.kind (held_entry self.old.entries.now self.old.marks.now p) left pivot right) }
+        ensures marks { self.new.marks.now ≡ slice_set self.old.marks.now p (if nat_eq (slice_index self.old.marks.now p) 0 then 1 else slice_index self.old.marks.now p) }
+    {
+        if self.marks[p] == EMPTY {
+            self.entries[p] = E::first_of(left, pivot, right);
+            self.marks[p] = HELD;
+        } else {
+            self.entries[p] = self.entries[p].more_of(left, pivot, right);
+        }
+    }
+
+    /// Pivot `k` at row `i` and column `j`.
+    fn meet(&mut self, k: usize, i: usize, j: usize, pivot: E, right: E)
+        requires after { k < j }
+        requires row { j ≤ i }
+        requires middle { square_in self.old k k ≡ Some pivot }
+        requires side { square_in self.old j k ≡ Some right }
+        ensures { Makes E.kind k (single i j) self.old self.new }
+    {
+        let Some(left) = self.held(i, k) else {
+            return;
+        };
+        if let Some(p) = self.reserve.cell(i, j) {
+            self.take(p, left, pivot, right);
+        }
+    }
+
+    /// Pivot `k` in the column `j`, row by row along the members of column `k`.
+    fn sweep(&mut self, k: usize, j: usize, pivot: E)
+        requires after { k < j }
+        requires middle { square_in self.old k k ≡ Some pivot }
+        ensures { Makes E.kind k (in_one j (size_in self.old.reserve.now)) self.old self.new }
+    {
+        let Some(right) = self.held(j, k) else {
+            return;
+        };
+        for i in self.reserve.column(k, j) {
+            self.meet(k, i, j, pivot, right);
+        }
+    }
+
+    /// Pivot `k`, column by column along the members of column `k`.
+    fn eliminate(&mut self, k: u16, pivot: E)
+        requires { square_in self.old k k ≡ Some pivot }
+        ensures { Makes E.kind k (beyond k) self.old self.new }
+    {
+        let at = k as usize;
+        for j in self.reserve.column(at, at + 1) {
+            self.sweep(at, j, pivot);
+        }
     }
 }
 
-/// Pivot `k` in the column `j`, row by row along the members of column `k`.
-fn sweep<E: Entry>(
-    reserve: &Reserve,
-    entries: &mut [E],
-    marks: &mut [u8],
-    k: usize,
-    j: usize,
-    pivot: E,
-)
-    requires after { k < j }
-    requires room { Room (filled_in reserve.now) (size_in reserve.now) entries.old marks.old }
-    requires middle { square_of (filled_in reserve.now) (size_in reserve.now) entries.old marks.old k k ≡ Some pivot }
-    ensures { Pivoted (kind E.Entry.usable E.Entry.first E.Entry.more) (filled_in reserve.now) (size_in reserve.now) k (in_one j (size_in reserve.now)) entries.old marks.old entries.new marks.new }
-{
-    let Some(right) = held(reserve, entries, marks, j, k) else {
-        return;
-    };
-    let mut from = j;
-    while let Some(i) = reserve.next_in_column(k, from) {
-        meet(reserve, entries, marks, k, i, j, pivot, right);
-        from = i + 1;
-    }
-}
-
-/// Pivot `k`, column by column along the members of column `k`.
-fn eliminate<E: Entry>(reserve: &Reserve, entries: &mut [E], marks: &mut [u8], k: usize, pivot: E)
-    requires small { k < size_in reserve.now }
-    requires room { Room (filled_in reserve.now) (size_in reserve.now) entries.old marks.old }
-    requires middle { square_of (filled_in reserve.now) (size_in reserve.now) entries.old marks.old k k ≡ Some pivot }
-    ensures { Pivoted (kind E.Entry.usable E.Entry.first E.Entry.more) (filled_in reserve.now) (size_in reserve.now) k (beyond k) entries.old marks.old entries.new marks.new }
-{
-    let mut from = k + 1;
-    while let Some(j) = reserve.next_in_column(k, from) {
-        sweep(reserve, entries, marks, k, j, pivot);
-        from = j + 1;
-    }
-}
-
-/// Makes pivot `k`. Refused by 19 where it is empty or unusable.
+/// Makes pivot `k`. Refused by [`Refusal::UnusablePivot`] where it is empty or unusable.
 pub(crate) fn make_pivot<E: Entry>(
     reserve: &Reserve,
     entries: &mut [E],
     marks: &mut [u8],
     k: u16,
 ) -> Result<(), Refusal>
-    requires small { k < size_in reserve.now }
-    requires room { Room (filled_in reserve.now) (size_in reserve.now) entries.old marks.old }
-    ensures value { outcome result ≡ pivot_outcome (kind E.Entry.usable E.Entry.first E.Entry.more) k (square_of (filled_in reserve.now) (size_in reserve.now) entries.old marks.old k k) }
-    ensures tables { MatchResult result (λ _. Pivoted (kind E.Entry.usable E.Entry.first E.Entry.more) (filled_in reserve.now) (size_in reserve.now) k (beyond k) entries.old marks.old entries.new marks.new) (λ _. (entries.new ≡ entries.old) × (marks.new ≡ marks.old)) }
+    requires { Room (filled_in reserve.now) (size_in reserve.now) entries.old marks.old }
+    ensures value { outcome result ≡ pivot_outcome E.kind k (square_of (filled_in reserve.now) (size_in reserve.now) entries.old marks.old k k) }
+    ensures tables { MatchResult result (λ _. Pivoted E.kind (filled_in reserve.now) (size_in reserve.now) k (beyond k) entries.old marks.old entries.new marks.new) (λ _. (entries.new ≡ entries.old) × (marks.new ≡ marks.old)) }
 {
     let at = k as usize;
-    let Some(pivot) = held(reserve, entries, marks, at, at) else {
-        return Err(Refusal::UnusablePivot(k));
+    let mut tables = Tables {
+        reserve,
+        entries,
+        marks,
     };
-    if !pivot.is_usable() {
-        return Err(Refusal::UnusablePivot(k));
-    }
-    eliminate(reserve, entries, marks, at, pivot);
+    let pivot = tables
+        .held(at, at)
+        .filter(|p| p.is_usable())
+        .ok_or(Refusal::UnusablePivot(k))?;
+    tables.eliminate(k, pivot);
     Ok(())
 }

@@ -4,37 +4,31 @@ ghost use Rattle.network.specs.Bits.{count_to};
 ghost use Rattle.network.specs.Laws.{FirstIs};
 ghost use Rattle.elimination.specs.Elimination.{pairs_below};
 ghost use Rattle.elimination.specs.Graphs.{apart, around, including, union, without};
-ghost use Rattle.elimination.specs.View.{graph};
-ghost use Rattle.elimination.specs.Words.{between, has_common_within, next_of};
+ghost use Rattle.elimination.specs.View.{coming, graph};
+ghost use Rattle.elimination.specs.Words.{between, has_common_within, members_of, next_of};
 
-use super::PairSet;
+use super::joins::join_rows;
+use super::{PairSet, RowMembers};
 use crate::words::{
-    common_within, count_between, count_rows, holds, join_rows, next_in, no_pairs, place, strike,
+    common_within, count_between, count_rows, first_in, holds, place, row_of, strike,
 };
 
+// Calls ask for stations below 512: callers hold `station < size` of an order, a fact of two values. A type of numbers below 512 would be made from it at every call, by the same proof.
 impl PairSet {
     /// The set without any pair.
     pub fn empty() -> PairSet
         ensures { (a b : ℕ) → graph result a b ≡ false }
     {
-        let words = no_pairs();
-        PairSet { words }
-    }
-
-    /// The same pairs.
-    pub fn copy(&self) -> PairSet
-        ensures { graph result ≡ graph self.now }
-    {
-        let words = self.words;
-        PairSet { words }
+        PairSet { words: [0; 4096] }
     }
 
     /// Whether two stations form a pair of the set.
     pub fn contains(&self, a: usize, b: usize) -> bool
-        requires one { a < 512 }
-        requires two { b < 512 }
         ensures { result ≡ graph self.now a b }
     {
+        if a >= 512 || b >= 512 {
+            return false;
+        }
         holds(&self.words, a, b)
     }
 
@@ -58,13 +52,21 @@ impl PairSet {
         strike(&mut self.words, b, a);
     }
 
-    /// The first station not below `from` that is paired with `a`: at most eight word steps.
+    /// The first station not below `from` that is paired with `a`: the row's eight words are copied, and looked at until one serves.
     pub fn next(&self, a: usize, from: usize) -> Option<usize>
         requires { a < 512 }
         ensures value { result ≡ next_of (graph self.now) a from }
         ensures first { FirstIs (graph self.now a) from 512 result }
     {
-        next_in(&self.words, a, from)
+        first_in(&row_of(&self.words, a), from)
+    }
+
+    /// The stations that are paired with `a`, rising, as the set now has them: at most eight word steps for each.
+    pub fn members(&self, a: usize) -> RowMembers
+        requires { a < 512 }
+        ensures { coming result ≡ members_of (graph self.now) a }
+    {
+        RowMembers::of(row_of(&self.words, a))
     }
 
     /// Whether every station that is paired with both `a` and `b`, but `c` itself, is paired with `c`: at most eight word steps.
@@ -100,10 +102,8 @@ impl PairSet {
         requires { v < 512 }
         ensures { graph self.new ≡ apart (graph self.old) v }
     {
-        let mut from = 0;
-        while let Some(a) = self.next(v, from) {
+        for a in self.members(v) {
             self.remove(v, a);
-            from = a + 1;
         }
     }
 

@@ -8,8 +8,8 @@ ghost use Rattle.network.specs.Sheets.{lone_sheet};
 
 use crate::bit_fields::field_of;
 use crate::refusal::Refusal;
-use crate::sheets::SheetNetwork;
-use crate::sheets::checks::{check_sheet, place_of, width_of};
+use crate::sheets::checks::check_sheet;
+use crate::sheets::{Header, SheetNetwork};
 
 // The sheet of one station, without couplings.
 static LONE: [u8; 5] = [8, 2, 0, 0, 0];
@@ -22,22 +22,20 @@ impl<'a> SheetNetwork<'a> {
     {
         SheetNetwork {
             bytes: &LONE,
-            size: 1,
-            couplings: 0,
+            counts: Header::new(1, 0),
         }
     }
 }
 
-// Writes the order of a sheet of `n` stations and `m` couplings to the front of the list.
-fn put_order(sheet: &[u8], n: u32, m: u32, order: &mut [u16])
-    requires { (m < 2 ^ 17) × ((n ≤ 512) × (n ≤ length order.old)) }
-    ensures { order.new ≡ order_of sheet.now n m ++ drop n order.old }
+// Writes the order of a sheet to the front of the list.
+fn put_order(sheet: &[u8], counts: Header, order: &mut [u16])
+    requires { counts.stations ≤ length order.old }
+    ensures { order.new ≡ order_of sheet.now counts.stations counts.couplings ++ drop counts.stations order.old }
 {
-    let w = width_of(n);
-    let mut at = place_of(w, 2 * m);
-    for k in 0..n {
-        order[k as usize] = field_of(sheet, at, w) as u16;
-        at += w;
+    let first = counts.first_of_order();
+    let front = &mut order[..counts.stations as usize];
+    for (k, station) in front.iter_mut().enumerate() {
+        *station = field_of(sheet, counts.place(first + k as u32), counts.bits) as u16;
     }
 }
 
@@ -56,11 +54,10 @@ pub fn read_sheet<'a>(
     if order.len() < counts.stations as usize {
         return Err(Refusal::TooShort(counts.stations as usize));
     }
-    put_order(sheet, counts.stations, counts.couplings, order);
+    put_order(sheet, counts, order);
     *place = SheetNetwork {
         bytes: sheet,
-        size: counts.stations,
-        couplings: counts.couplings,
+        counts,
     };
     Ok(())
 }

@@ -1,23 +1,14 @@
 //! The couplings of any network, taken over as a set of pairs.
 //! A plan asks its network here alone, and never again.
-ghost use Rattle.std.specs.Prelude.{◌≡◌, ◌<◌, if◌then◌else◌};
+ghost use Rattle.std.specs.Prelude.{◌≡◌, ◌<◌};
 ghost use Rattle.elimination.specs.View.{graph};
-ghost use Rattle.elimination.specs.Graphs.{including, union};
+ghost use Rattle.elimination.specs.Graphs.{union};
 ghost use Rattle.plan_parts.specs.Plans.{pairs_below};
 
 use elimination::PairSet;
 use network::Network;
 
-/// Puts a pair in if it is wanted.
-fn insert_if(set: &mut PairSet, a: u16, b: u16, wanted: bool)
-    requires one { a < 512 }
-    requires two { b < 512 }
-    ensures { graph set.new ≡ (if wanted then including (graph set.old) a b else graph set.old) }
-{
-    if wanted {
-        set.insert(a as usize, b as usize);
-    }
-}
+// The same two walks as where couplings are counted and written, each with something else done: the line in network says why they stay.
 
 /// Puts in the couplings of station `a` with smaller stations: one question for each of those.
 fn take_row<N: Network>(set: &mut PairSet, network: &N, a: u16)
@@ -25,8 +16,9 @@ fn take_row<N: Network>(set: &mut PairSet, network: &N, a: u16)
     ensures { graph set.new ≡ union (graph set.old) (pairs_below (N.Network.meaning network.now).coupled a a) }
 {
     for b in 0..a {
-        let wanted = network.coupled(a, b);
-        insert_if(set, a, b, wanted);
+        if network.coupled(a, b) {
+            set.insert(a as usize, b as usize);
+        }
     }
 }
 

@@ -10,8 +10,7 @@ ghost use Rattle.plan_parts.specs.PlanView.{view};
 ghost use Rattle.plan_parts.specs.Reserves.{known};
 
 use super::Plan;
-use crate::orders::{position_in, station_in, write_order};
-use elimination::total_of;
+use crate::orders::{in_range, position_in, station_in, write_order};
 use network::Refusal;
 
 impl Plan {
@@ -20,7 +19,7 @@ impl Plan {
         ensures value { outcome result ≡ known (view self.now).net.size station (Ok (position_of (view self.now).order station)) }
         ensures history { Asks (position_of_station station) (view self.now) }
     {
-        position_in(&self.order, station)
+        position_in(self.elimination.order(), station)
     }
 
     /// The station at a position.
@@ -28,7 +27,7 @@ impl Plan {
         ensures value { outcome result ≡ known (view self.now).net.size position (Ok (slice_index (view self.now).order position)) }
         ensures history { Asks (station_at_position position) (view self.now) }
     {
-        station_in(&self.order, position)
+        station_in(self.elimination.order(), position)
     }
 
     /// The parent of a station in the elimination tree; the last station has none. It looks at each later station at most once.
@@ -36,16 +35,20 @@ impl Plan {
         ensures value { outcome result ≡ known (view self.now).net.size station (Ok (elimination.parent (view self.now).net.coupled (view self.now).order station)) }
         ensures history { Asks (parent_of station) (view self.now) }
     {
-        self.parent_of(station)
+        in_range(station, self.size())?;
+        Ok(self.elimination.parent(station))
     }
 
     /// Whether two stations form a filled pair; no station forms one with itself.
+    #[tactic(auto, using(crate::proofs::Plans::pairs_apart))]
     pub fn filled(&self, a: u16, b: u16) -> Result<bool, Refusal>
         ensures value { outcome result ≡ known (view self.now).net.size a (known (view self.now).net.size b (Ok (elimination.filled (view self.now).net.coupled (view self.now).order a b))) }
         ensures same { a ≡ b → IfOk result (λ paired. paired ≡ false) }
         ensures history { Asks (pair_filled a b) (view self.now) }
     {
-        self.is_filled(a, b)
+        in_range(a, self.size())?;
+        in_range(b, self.size())?;
+        Ok(self.elimination.pairs().contains(a as usize, b as usize))
     }
 
     /// How many filled pairs a station forms with later stations. It looks at each of those once.
@@ -53,7 +56,8 @@ impl Plan {
         ensures value { outcome result ≡ known (view self.now).net.size station (Ok (elimination.count (view self.now).net.coupled (view self.now).order station)) }
         ensures history { Asks (count_of station) (view self.now) }
     {
-        self.count_of(station)
+        in_range(station, self.size())?;
+        Ok(self.elimination.count(station))
     }
 
     /// How many pairs are in the plan's fill: sixteen word steps for each station.
@@ -61,7 +65,7 @@ impl Plan {
         ensures value { result ≡ elimination.total (view self.now).net.size (view self.now).net.coupled (view self.now).order }
         ensures history { Asks total_fill (view self.now) }
     {
-        total_of(&self.couplings, &self.pairs, &self.order)
+        self.elimination.total()
     }
 
     /// How many calls of load and seat were refused, at most 65,535.
@@ -78,6 +82,6 @@ impl Plan {
         ensures written { out.new ≡ order_written (view self.now).net.size (view self.now).order out.old }
         ensures history { Asks whole_order (view self.now) }
     {
-        write_order(&self.order, out)
+        write_order(self.elimination.order(), out)
     }
 }

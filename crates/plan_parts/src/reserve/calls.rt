@@ -1,6 +1,6 @@
 //! How reserves are made, and what can be asked of them.
-ghost use Rattle.std.specs.Prelude.{◌≡◌, ℕ, ◌<◌, ◌≤◌, true, false, [], ◌∷◌, IfOk, Ok, slice_index};
-ghost use Rattle.elimination.specs.Graphs.{Simple, closed};
+ghost use Rattle.std.specs.Prelude.{◌≡◌, ℕ, ◌<◌, ◌≤◌, false, [], ◌∷◌, IfOk, Ok, slice_index};
+ghost use Rattle.elimination.specs.Elimination.{filled};
 ghost use Rattle.elimination.specs.View.{graph, listed};
 ghost use Rattle.network.specs.Laws.{FirstIs};
 ghost use Rattle.network.specs.Refusals.{outcome};
@@ -11,9 +11,10 @@ ghost use Rattle.plan_parts.specs.Reserves.{by_position, has_place, known, next_
 ghost use Rattle.plan_parts.specs.ReserveView.{filled_in, order_in, size_in};
 
 use super::Reserve;
+use super::column::Column;
 use super::parts::{by_positions, column_starts};
 use crate::orders::{position_in, station_in, write_order};
-use elimination::{EliminationOrder, PairSet};
+use elimination::{Elimination, EliminationOrder, PairSet};
 use network::Refusal;
 
 impl Reserve {
@@ -33,15 +34,13 @@ impl Reserve {
         }
     }
 
-    /// The reserve of an order and its filled pairs, given by stations: a few word steps for each pair.
-    pub(crate) fn settled(order: EliminationOrder, pairs: &PairSet) -> Reserve
-        requires some { 1 ≤ order.size }
-        requires simple { Simple order.size (graph pairs.now) }
-        requires closed { closed (graph pairs.now) (listed order) ≡ true }
-        ensures order { result.order ≡ order }
-        ensures pairs { filled_in result ≡ by_position (graph pairs.now) (listed order) }
+    /// The reserve of an order: a few word steps for each filled pair.
+    pub(crate) fn of(elimination: &Elimination) -> Reserve
+        ensures order { result.order ≡ elimination.now.order }
+        ensures pairs { filled_in result ≡ by_position (filled (graph elimination.now.couplings) (listed elimination.now.order)) (listed elimination.now.order) }
     {
-        let pairs = by_positions(pairs, &order);
+        let order = *elimination.order();
+        let pairs = by_positions(elimination.pairs(), &order);
         let starts = column_starts(&pairs, order.size() as usize);
         Reserve {
             order,
@@ -60,6 +59,7 @@ impl Reserve {
     }
 
     /// How many places there are.
+    #[tactic(auto, using(crate::proofs::Columns::start_small), unfolding(crate::specs::Layout::places))]
     pub fn length(&self) -> usize
         ensures value { result ≡ places (filled_in self.now) (size_in self.now) }
         ensures small { result ≤ 131328 }
@@ -68,6 +68,7 @@ impl Reserve {
     }
 
     /// The number of the place in row `i` and column `j`, by positions: at most eight word steps.
+    #[tactic(auto, using(crate::proofs::Columns::cell_own, crate::proofs::Columns::cell_later, crate::proofs::Columns::cell_unpaired, crate::proofs::Columns::cell_above, crate::proofs::Numbering::cell_out))]
     pub fn cell(&self, i: usize, j: usize) -> Option<usize>
         ensures { result ≡ cell (filled_in self.now) (size_in self.now) i j }
     {
@@ -84,7 +85,7 @@ impl Reserve {
         Some(first + 1 + self.pairs.count_between(j, j + 1, i) as usize)
     }
 
-    /// The smallest position not below `from` that has a place in the column: at most eight word steps.
+    /// The smallest position not below `from` that has a place in the column: a row of eight words is copied and looked at.
     pub fn next_in_column(&self, column: usize, from: usize) -> Option<usize>
         ensures value { result ≡ next_of_column (filled_in self.now) (size_in self.now) column from }
         ensures first { FirstIs (has_place (filled_in self.now) (size_in self.now) column) from 512 result }
@@ -96,6 +97,19 @@ impl Reserve {
             return Some(column);
         }
         self.pairs.next(column, from)
+    }
+
+    /// The positions not below `from` that have a place in the column, by rising position: for each a row of eight words is copied and looked at.
+    pub fn column(&self, column: usize, from: usize) -> Column<'_>
+        ensures reserve { result.reserve.now ≡ self.now }
+        ensures column { result.column ≡ column }
+        ensures from { result.from ≡ from }
+    {
+        Column {
+            reserve: self,
+            column,
+            from,
+        }
     }
 
     /// The position of a station.
@@ -116,6 +130,7 @@ impl Reserve {
     }
 
     /// The number of the place of two stations, or none: the same station twice has its diagonal. At most eight word steps.
+    #[tactic(auto, unfolding(crate::specs::Layout::place_for))]
     pub fn place(&self, a: u16, b: u16) -> Result<Option<usize>, Refusal>
         ensures { outcome result ≡ known (size_in self.now) a (known (size_in self.now) b (Ok (place_of_stations (filled_in self.now) (size_in self.now) (order_in self.now) a b))) }
     {

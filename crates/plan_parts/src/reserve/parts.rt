@@ -1,23 +1,28 @@
 //! The parts of a reserve: the filled pairs by positions, and where each column begins.
 //! The pairs come by stations; by positions, a rank in a column is one count over a row.
-ghost use Rattle.std.specs.Prelude.{◌≡◌, ℕ, ◌<◌, ◌≤◌, slice_index};
+ghost use Rattle.std.specs.Prelude.{◌≡◌, ◌<◌, ◌≤◌, slice_index};
 ghost use Rattle.elimination.specs.Graphs.{Simple, pairs_at, union};
 ghost use Rattle.elimination.specs.View.{graph, listed};
 ghost use Rattle.plan_parts.specs.Reserves.{Begins, by_position};
 
 use elimination::{EliminationOrder, PairSet};
 
-/// Puts the pairs of the station at position `i` into `placed`, by positions: a few word steps for each.
-fn place_pairs(placed: &mut PairSet, pairs: &PairSet, order: &EliminationOrder, i: u16)
+/// Puts the pairs of a station, at position `i` of the order, into `placed`, by positions: a few word steps for each.
+fn place_pairs(
+    placed: &mut PairSet,
+    pairs: &PairSet,
+    order: &EliminationOrder,
+    i: usize,
+    station: u16,
+)
     requires position { i < order.now.size }
+    requires station { slice_index (listed order.now) i ≡ station }
+    requires known { station < order.now.size }
     requires simple { Simple order.now.size (graph pairs.now) }
     ensures { graph placed.new ≡ union (graph placed.old) (pairs_at (by_position (graph pairs.now) (listed order.now)) i) }
 {
-    let a = order.station(i) as usize;
-    let mut from = 0;
-    while let Some(b) = pairs.next(a, from) {
-        placed.insert(i as usize, order.position(b as u16) as usize);
-        from = b + 1;
+    for b in pairs.members(station as usize) {
+        placed.insert(i, order.position(b as u16) as usize);
     }
 }
 
@@ -27,16 +32,10 @@ pub(crate) fn by_positions(pairs: &PairSet, order: &EliminationOrder) -> PairSet
     ensures { graph result ≡ by_position (graph pairs.now) (listed order.now) }
 {
     let mut placed = PairSet::empty();
-    for i in 0..order.size() {
-        place_pairs(&mut placed, pairs, order, i);
+    for (i, station) in order.stations().iter().enumerate() {
+        place_pairs(&mut placed, pairs, order, i, *station);
     }
     placed
-}
-
-fn no_starts() -> [u32; 513]
-    ensures { (k : ℕ) → slice_index result k ≡ 0 }
-{
-    [0; 513]
 }
 
 /// Where each column begins, and where the last one ends: eight word steps for each column.
@@ -44,7 +43,7 @@ pub(crate) fn column_starts(pairs: &PairSet, n: usize) -> [u32; 513]
     requires { n ≤ 512 }
     ensures { Begins (graph pairs.now) n result }
 {
-    let mut starts = no_starts();
+    let mut starts = [0; 513];
     for j in 0..n {
         starts[j + 1] = starts[j] + 1 + pairs.count_between(j, j + 1, n);
     }

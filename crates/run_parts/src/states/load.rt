@@ -3,7 +3,6 @@ ghost use Rattle.std.specs.Prelude.{◌≡◌, false, length, IfOk, Ok};
 ghost use Rattle.network.specs.Refusals.{outcome};
 ghost use Rattle.plan_parts.specs.ReserveView.{filled_in, order_in, size_in};
 ghost use Rattle.run_parts.specs.Histories.Stage.{loading, running};
-ghost use Rattle.run_parts.specs.Kinds.{kind};
 ghost use Rattle.run_parts.specs.Outcomes.{cleared, put_outcome, put_places, put_square, roomy, stored};
 ghost use Rattle.run_parts.specs.Places.{place_in, places_in};
 ghost use Rattle.run_parts.specs.Square.{empty};
@@ -11,13 +10,14 @@ ghost use Rattle.run_parts.specs.Views.{GoesOn, History, Hold, Turns, loaded};
 
 use super::{Loading, Running};
 use crate::kinds::Entry;
-use crate::tables::{check_room, checked_place, clear_places, store};
+use crate::tables::{EMPTY, HELD, check_room, checked_place};
 use network::Refusal;
 use plan_parts::Reserve;
 use std::marker::PhantomData;
 
 /// Starts a run on a reserve: zeroes the marks of its places, one step for each. The entries only show the length of
-/// their table. Refused by 17.
+/// their table. Refused by [`Refusal::TableTooShort`].
+#[tactic(auto, using(crate::proofs::Zeroes::filled_marks, crate::proofs::Calls::starts, crate::proofs::Calls::empty_agrees))]
 pub fn start<'r, E: Entry>(
     reserve: &'r Reserve,
     entries: &[E],
@@ -25,12 +25,10 @@ pub fn start<'r, E: Entry>(
 ) -> Result<Loading<'r, E>, Refusal>
     ensures value { loaded result ≡ roomy (places_in reserve.now) (length entries.now) (length marks.old) (Ok reserve.now) }
     ensures marks { marks.new ≡ cleared (loaded result) (places_in reserve.now) marks.old }
-    ensures history { IfOk result (λ l. History (kind E.Entry.usable E.Entry.first E.Entry.more) l.reserve.now loading 0 empty (λ i j. false) × Hold l.reserve.now entries.now marks.new empty) }
+    ensures history { IfOk result (λ l. History E.kind l.reserve.now loading 0 empty (λ i j. false) × Hold l.reserve.now entries.now marks.new empty) }
 {
-    if let Err(refusal) = check_room(reserve.length(), entries, marks) {
-        return Err(refusal);
-    }
-    clear_places(reserve, marks);
+    check_room(reserve, entries, marks)?;
+    marks[..reserve.length()].fill(EMPTY);
     Ok(Loading {
         reserve,
         kind: PhantomData,
@@ -38,8 +36,9 @@ pub fn start<'r, E: Entry>(
 }
 
 impl<'r, E: Entry> Loading<'r, E> {
-    /// Stores an entry for two stations, the same one twice for its diagonal, and marks it with 1.
-    /// Refused by 15 for the first station, 15 for the second, 17, and 18 where the two have no place.
+    /// Stores an entry for two stations, the same one twice for its diagonal, and marks it as held.
+    /// Refused by [`Refusal::OutOfRange`] for the first station or the second, [`Refusal::TableTooShort`], and
+    /// [`Refusal::NoPlace`] where the two have no place.
     pub fn put(
         &self,
         entries: &mut [E],
@@ -51,35 +50,26 @@ impl<'r, E: Entry> Loading<'r, E> {
         ensures value { outcome result ≡ put_outcome (filled_in self.now.reserve.now) (size_in self.now.reserve.now) (order_in self.now.reserve.now) (length entries.old) (length marks.old) a b }
         ensures entries { entries.new ≡ stored (outcome result) (place_in self.now.reserve.now a b) value entries.old }
         ensures marks { marks.new ≡ stored (outcome result) (place_in self.now.reserve.now a b) 1 marks.old }
-        ensures history { GoesOn (kind E.Entry.usable E.Entry.first E.Entry.more) self.now.reserve.now loading 0 entries.old marks.old 0 entries.new marks.new (put_square (order_in self.now.reserve.now) a b value (outcome result)) (put_places (order_in self.now.reserve.now) a b (outcome result)) }
+        ensures history { GoesOn E.kind self.now.reserve.now loading 0 entries.old marks.old 0 entries.new marks.new (put_square (order_in self.now.reserve.now) a b value (outcome result)) (put_places (order_in self.now.reserve.now) a b (outcome result)) }
     {
         let place = checked_place(self.reserve, entries, marks, a, b)?;
-        let Some(p) = place else {
-            return Err(Refusal::NoPlace(a.max(b)));
-        };
-        store(entries, marks, p, value);
+        let p = place.ok_or(Refusal::NoPlace(a.max(b)))?;
+        entries[p] = value;
+        marks[p] = HELD;
         Ok(())
     }
 
     /// Ends loading: from here on the run makes pivots.
+    #[tactic(auto, using(crate::proofs::Calls::begins))]
     pub fn begin(self) -> Running<'r, E>
         ensures reserve { result.reserve.now ≡ self.entry.reserve.now }
         ensures made { result.made ≡ 0 }
-        ensures history { Turns (kind E.Entry.usable E.Entry.first E.Entry.more) self.entry.reserve.now loading 0 running result.made }
+        ensures history { Turns E.kind self.entry.reserve.now loading 0 running result.made }
     {
-        let Loading { reserve, kind } = self;
-        fresh(reserve, kind)
-    }
-}
-
-/// A run that has made no pivot.
-fn fresh<E>(reserve: &Reserve, kind: PhantomData<E>) -> Running<'_, E>
-    ensures reserve { result.reserve.now ≡ reserve.now }
-    ensures made { result.made ≡ 0 }
-{
-    Running {
-        reserve,
-        made: 0,
-        kind,
+        Running {
+            reserve: self.reserve,
+            made: 0,
+            kind: PhantomData,
+        }
     }
 }

@@ -1,16 +1,9 @@
-use Rattle.std.proofs.Common.{◌≡◌, arith}
+use Rattle.std.proofs.Common.{arith}
 use Rattle.elimination.specs.View.{graph}
 use Rattle.elimination.proofs.Drops.{looked-tight}
 use Rattle.elimination.proofs.dropping.drop_round.Goals as goal
 
-pub returns : goal.returns
-returns c =
+pub returns-clause-none : goal.returns-clause-none
+returns-clause-none c =
     let i = c.loop-u.invariant in
-    let e : c.loop-u.u ≡ c.args.n = omega arith in
-    record {
-      ready = i.0;
-      within = i.1;
-      looked = i.2;
-      some = i.3;
-      none = λ d. looked-tight c.args.n (graph c.args.couplings.now) (graph c.loop-u.pairs) c.loop-u.again i.0.simple i.2 (λ j l. i.4 d j (omega arith));
-    }
+    λ d. looked-tight c.args.n (graph c.args.couplings.now) (graph c.loop-u.pairs) c.loop-u.again i.0.simple i.2 (λ j l. i.4 d j (omega arith))

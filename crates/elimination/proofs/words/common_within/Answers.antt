@@ -1,17 +1,11 @@
-use Rattle.std.proofs.Common.{◌+◌, ◌*◌, ◌^◌, ◌<◌, get_or, arith, rules}
-use Rattle.elimination.proofs.RowTests.{rest_more, rest-word, common-all, common-not}
+use Rattle.std.proofs.Common.{refl, rules, tests}
+use Rattle.std.proofs.lemmas.Iterator.{YieldsList-from_range, cases_from_all}
+use Rattle.elimination.specs.Words.{WordWithin}
+use Rattle.elimination.proofs.RowTests.{common-words}
 use Rattle.elimination.proofs.words.common_within.Goals as goal
-
-pub returns-then-words-a-ne0 : goal.returns-then-words-a-ne0
-returns-then-words-a-ne0 c =
-    let ha : get_or c.args.words.now (c.args.a * 8 + c.loop-k.k) 0 < 2 ^ 64 = search rules in
-    common-not c.args.words.now c.args.a c.args.b c.args.c c.requires.one c.requires.two c.requires.third
-    (λ all. c.if-words-a-ne0.true (rest-word _ _ _ _ _ _ c.with_own-own.type_inv c.with_own-own.ensures ha (omega arith) all))
-
-pub loop-k-preserved : goal.loop-k-preserved
-loop-k-preserved c = rest_more _ _ _ _ _ _ c.with_own-own.type_inv c.with_own-own.ensures c.if-words-a-ne0.false c.loop-k.invariant
 
 pub returns : goal.returns
 returns c =
-    common-all c.args.words.now c.args.a c.args.b c.args.c c.requires.one c.requires.two c.requires.third
-    (λ x h. c.loop-k.invariant x (omega arith))
+    let within = WordWithin c.args.words.now c.args.a c.args.b c.args.c in
+    common-words c.args.words.now c.args.a c.args.b c.args.c c.requires.one c.requires.two c.requires.third c.all.result
+    (cases_from_all _ _ c.all.result within (λ k. within k → ⊥) c.all.ensures.ran (YieldsList-from_range 0 8 8 (cc) refl) (λ x q call. search (rules, tests)) (λ x q call. search (rules, tests)))

@@ -1,23 +1,26 @@
-use Rattle.std.proofs.Common.{◌≡◌, ℕ, ◌+◌, sym, ap, ◌∙◌, arith}
+use Rattle.std.proofs.Common.{◌≡◌, ℕ, ◌<◌, ◌^◌, ◌∙◌, arith, rules}
+use Rattle.std.specs.List.{range_with_len, sum_by}
+use Rattle.std.proofs.lemmas.Iterator.{YieldsList-from_map, YieldsList-from_range}
+use Rattle.std.proofs.lemmas.Iterator.Consumers.{fits_by_from_yields_list, sum_by_from_yields_List}
+use Rattle.network.specs.Bits.{count_to}
 use Rattle.elimination.specs.Elimination.{pairs_below}
-use Rattle.elimination.specs.Words.{rows}
-use Rattle.elimination.proofs.Walks.{count-lower, pairs-none, pairs-more, pairs-le}
+use Rattle.elimination.specs.Words.{between, rows}
+use Rattle.elimination.proofs.RowTests.{sum-rows}
+use Rattle.elimination.proofs.Walks.{pairs-le}
 use Rattle.elimination.proofs.words.count_rows.Goals as goal
 
-pub loop-a-init : goal.loop-a-init
-loop-a-init c = sym (pairs-none (rows c.args.words.now))
-
-pub overflow_add-total : goal.overflow_add-total
-overflow_add-total c = omega (arith, pairs-le c.loop-a.a (rows c.args.words.now) (omega arith), c.count_between-total.ensures.small)
-
-pub loop-a-preserved : goal.loop-a-preserved
-loop-a-preserved c =
-    ap (λ (m : ℕ). m + c.count_between-total.result) c.loop-a.invariant
-    ∙ ap (λ (m : ℕ). pairs_below c.loop-a.a (rows c.args.words.now) + m) (c.count_between-total.ensures.value ∙ count-lower (rows c.args.words.now) c.loop-a.a (omega arith))
-    ∙ sym (pairs-more c.loop-a.a (rows c.args.words.now))
+pub sum-requires-clause-fits : goal.sum-requires-clause-fits
+sum-requires-clause-fits c =
+    let n = c.args.n in
+    let h : ℕ → ℕ = λ a. count_to (between (rows c.args.words.now) a 0 a) 512 in
+    let bound : sum_by h (range_with_len 0 n) < 2 ^ 32 = omega (arith, sum-rows (rows c.args.words.now) n c.requires, pairs-le n (rows c.args.words.now) c.requires, c.requires) in
+    fits_by_from_yields_list h (range_with_len 0 n) c.map.result _ (YieldsList-from_map _ h (YieldsList-from_range 0 n n (cc) (omega arith)) c.map.ensures.closure (λ x r q k. search rules)) bound
 
 pub returns : goal.returns
 returns c =
-    let e : c.loop-a.a ≡ c.args.n = omega arith in
-    let value : c.loop-a.total ≡ pairs_below c.args.n (rows c.args.words.now) = c.loop-a.invariant ∙ ap (λ (m : ℕ). pairs_below m (rows c.args.words.now)) e in
-    record { value = value; small = omega (arith, pairs-le c.args.n (rows c.args.words.now) c.requires) }
+    let n = c.args.n in
+    let h : ℕ → ℕ = λ a. count_to (between (rows c.args.words.now) a 0 a) 512 in
+    let value : c.sum.result ≡ pairs_below n (rows c.args.words.now) =
+    sum_by_from_yields_List h (range_with_len 0 n) c.map.result c.sum.result c.sum.ensures.ran (YieldsList-from_map _ h (YieldsList-from_range 0 n n (cc) (omega arith)) c.map.ensures.closure (λ x r q k. search rules))
+    ∙ sum-rows (rows c.args.words.now) n c.requires in
+    record { value = value; small = omega (arith, pairs-le n (rows c.args.words.now) c.requires) }

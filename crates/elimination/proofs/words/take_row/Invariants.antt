@@ -1,7 +1,7 @@
-use Rattle.std.proofs.Common.{◌≡◌, length}
-use Rattle.elimination.specs.Words.{rows}
-use Rattle.elimination.proofs.RowTests.{taking}
+use Rattle.std.proofs.Common.{◌*◌}
+use Rattle.elimination.proofs.RowTests.{Taken}
 use Rattle.elimination.proofs.words.take_row.Given as goal
 
+-- the first k words have taken those of the row v
 abbrev pub invariant-loop-k : goal.invariant-loop-k
-invariant-loop-k l = (rows l.words ≡ taking (rows l.initial.words) l.a l.v l.k) × (length l.words ≡ 4096)
+invariant-loop-k l = Taken l.part l.fn.words l.row (l.a * 8) l.k

@@ -1,10 +1,8 @@
-use Rattle.std.proofs.Common.{◌-◌, ◌≤◌}
 use Rattle.elimination.specs.View.{graph, listed}
 use Rattle.plan_parts.proofs.Marks.{Marked}
 use Rattle.plan_parts.proofs.through.find_neighbours.Given as goal
 
-abbrev pub invariant-loop-k : goal.invariant-loop-k
-invariant-loop-k l = Marked (graph l.couplings) (listed l.order) l.position l.station l.initial.board l.board l.from × (l.from ≤ 512)
-
-abbrev pub decreases-loop-k : goal.decreases-loop-k
-decreases-loop-k l = 512 - l.from
+abbrev pub invariant-loop-neighbour : goal.invariant-loop-neighbour
+invariant-loop-neighbour l =
+    (goal.iterator-loop-neighbour).can_next l.neighbour-iterator × (goal.iterator-loop-neighbour).is_finite l.neighbour-iterator
+    × Marked (graph l.elimination.couplings) (listed l.elimination.order) l.position l.station l.initial.marks l.marks l.yielded

@@ -1,6 +1,5 @@
-use Rattle.std.proofs.Common.{◌≡◌, length, take}
-use Rattle.elimination.specs.Orders.{up_to}
+use Rattle.std.proofs.Common.{◌≡◌, ℕ, ◌<◌, get_or}
 use Rattle.elimination.proofs.order.calls.rising_places.Given as goal
 
 abbrev pub invariant-loop-k : goal.invariant-loop-k
-invariant-loop-k l = (take l.k l.stations ≡ up_to l.k) × (length l.stations ≡ 512)
+invariant-loop-k l = (j : ℕ) → j < l.k → get_or l.station-items j 0 ≡ j

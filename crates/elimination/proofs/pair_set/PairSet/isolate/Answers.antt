@@ -1,24 +1,27 @@
-use Rattle.std.proofs.Common.{ap, ◌∙◌, arith}
+use Rattle.std.proofs.Common.{ap, ◌∙◌}
 use Rattle.elimination.specs.Graphs.{Graph, without}
 use Rattle.elimination.specs.View.{graph}
-use Rattle.elimination.proofs.Rows.{rows-below}
-use Rattle.elimination.proofs.Walks.{cut-gap, cut-more, cut_all}
+use Rattle.elimination.proofs.MemberWalks.{end-members, turn-below}
+use Rattle.elimination.proofs.Walks.{cut-none, cut-more, cut-all}
 use Rattle.elimination.proofs.pair_set.PairSet.isolate.Goals as goal
 
+pub loop-a-init : goal.loop-a-init
+loop-a-init c = (tt, tt, cut-none (graph c.args.self.now) c.args.v)
+
+pub remove-requires-clause-two : goal.remove-requires-clause-two
+remove-requires-clause-two c =
+    turn-below c.args.self.now.words c.args.v c.members-a-items.result c.into_iter-a-iterator.result c.into_iter-a-iterator.ensures.into_iter_gives c.members-a-items.ensures c.loop-a.yielded c.loop-a.a-iterator _ c.loop-a.yielded_by
+    c.in-Some.a c.in-Some.ensures.steps
+
 pub loop-a-preserved : goal.loop-a-preserved
-loop-a-preserved c =
-    let first = c.in-Some.ensures.first in
-    let G : Graph = graph c.args.self.now in
-    let v = c.args.v in
-    let a = c.in-Some.a in (
-      c.remove.ensures
-          ∙ ap (λ (K : Graph). without K v a) (cut-gap G (graph c.loop-a.self) v c.loop-a.from a c.loop-a.self.mirrored c.loop-a.invariant.0 first.0 first.3)
-          ∙ cut-more G v a,
-      omega (arith, first.1),
-    )
+loop-a-preserved c = (
+  tt,
+  tt,
+  c.remove.ensures ∙ ap (λ (G : Graph). without G c.args.v c.in-Some.a) c.loop-a.invariant.2 ∙ cut-more (graph c.args.self.now) c.args.v c.in-Some.a c.loop-a.yielded,
+)
 
 pub returns : goal.returns
 returns c =
-    let G : Graph = graph c.args.self.now in
-    cut-gap G (graph c.loop-a.self) c.args.v c.loop-a.from 512 c.loop-a.self.mirrored c.loop-a.invariant.0 c.loop-a.invariant.1 c.in_default.ensures.first
-    ∙ cut_all G c.args.v 512 (rows-below c.args.self.now.words)
+    c.loop-a.invariant.2
+    ∙ cut-all (graph c.args.self.now) c.args.v c.loop-a.yielded c.args.self.now.mirrored
+    (end-members c.args.self.now.words c.args.v c.members-a-items.result c.into_iter-a-iterator.result c.into_iter-a-iterator.ensures.into_iter_gives c.members-a-items.ensures c.loop-a.yielded c.loop-a.a-iterator _ c.loop-a.yielded_by c.in-None.ensures.steps)

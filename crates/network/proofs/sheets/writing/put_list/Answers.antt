@@ -1,5 +1,5 @@
 use Rattle.std.proofs.Common.{◌≡◌, ℕ, suc, ◌*◌, ◌<◌, ◌≤◌, length, get_or, take, sym, ap, ◌∙◌, subst, mul-le-mul_left, mul-suc, arith}
-use Rattle.std.proofs.lemmas.List.{take_more, take_all, length-take-le}
+use Rattle.std.proofs.lemmas.List.{take_more, length-take-le}
 use Rattle.network.proofs.Standing.{length-spread}
 use Rattle.network.proofs.Writes.{puts_none, puts-field, puts-station, spread_none}
 use Rattle.network.specs.Sheets.{spread}
@@ -7,11 +7,11 @@ use Rattle.network.specs.Writing.{Puts}
 use Rattle.network.proofs.sheets.writing.put_list.Goals as goal
 
 pub loop-station-init : goal.loop-station-init
-loop-station-init c = subst (Puts _ _) (sym (spread_none c.args.w)) (puts_none c.args.writer.now)
+loop-station-init c = subst (Puts _ _) (sym (spread_none c.args.counts.bits)) (puts_none c.args.writer.now)
 
 pub put-requires : goal.put-requires
 put-requires c =
-    let w = c.args.w in
+    let w = c.args.counts.bits in
     let xs = c.args.order.now in
     let i = c.loop-station.station-index in
     let lt : i < length xs = omega arith in
@@ -27,15 +27,10 @@ put-requires c =
 
 pub loop-station-preserved : goal.loop-station-preserved
 loop-station-preserved c =
-    let w = c.args.w in
+    let w = c.args.counts.bits in
     let xs = c.args.order.now in
     let i = c.loop-station.station-index in
     let lt : i < length xs = omega arith in
     subst (λ us. Puts c.args.writer.now c.put.new.self (spread w us)) (sym (take_more xs i 0 lt))
     (puts-station w (take i xs) (get_or xs i 0) c.loop-station.invariant
     (puts-field c.loop-station.writer c.put.new.self c.put.ensures.lender c.put.ensures.place c.put.ensures.size c.put.ensures.bits))
-
-pub returns : goal.returns
-returns c =
-    let xs = c.args.order.now in
-    subst (λ us. Puts c.args.writer.now c.loop-station.writer (spread c.args.w us)) (take_all c.loop-station.station-index xs (omega arith)) c.loop-station.invariant

@@ -7,15 +7,14 @@ use Rattle.network.proofs.sheets.writing.put_row.Goals as goal
 
 pub loop-b-init : goal.loop-b-init
 loop-b-init g c =
-    subst (Puts _ _) (sym (row-none c.args.w (g.N.Network.meaning c.args.network.now).coupled c.args.a)) (puts_none c.args.writer.now)
+    subst (Puts _ _) (sym (row-none c.args.counts.bits (g.N.Network.meaning c.args.network.now).coupled c.args.a)) (puts_none c.args.writer.now)
 
 pub put_pair-requires : goal.put_pair-requires
 put_pair-requires g c =
     let C = (g.N.Network.meaning c.args.network.now).coupled in
-    let fits = row_room c.args.w C c.args.a c.loop-b.b (omega arith) (sym c.coupled.ensures ∙ c.if-coupled.true) in
-    let one = length-pair_bits c.args.w ((c.args.a, c.loop-b.b) ∷ []) in
+    let fits = row_room c.args.counts.bits C c.args.a c.loop-b.b (omega arith) (sym c.coupled.ensures ∙ c.if-coupled.true) in
+    let one = length-pair_bits c.args.counts.bits ((c.args.a, c.loop-b.b) ∷ []) in
     record {
-      width = c.requires.width;
       fit = (omega arith, omega arith);
       room = (simp length-pair_bits (omega (arith, c.loop-b.invariant.place, c.loop-b.invariant.size)), omega (arith, c.loop-b.invariant.size));
     }
@@ -23,7 +22,7 @@ put_pair-requires g c =
 pub loop-b-preserved : goal.loop-b-preserved
 loop-b-preserved g c =
     let C = (g.N.Network.meaning c.args.network.now).coupled in
-    let w = c.args.w in
+    let w = c.args.counts.bits in
     let a = c.args.a in
     let b = c.loop-b.b in
     elim c.if-coupled.branch [
@@ -40,4 +39,4 @@ pub returns : goal.returns
 returns g c =
     let C = (g.N.Network.meaning c.args.network.now).coupled in
     let e : c.loop-b.b ≡ c.args.a = omega arith in
-    subst (λ (x : ℕ). Puts c.args.writer.now c.loop-b.writer (pair_bits c.args.w (row_to C c.args.a x))) e c.loop-b.invariant
+    subst (λ (x : ℕ). Puts c.args.writer.now c.loop-b.writer (pair_bits c.args.counts.bits (row_to C c.args.a x))) e c.loop-b.invariant

@@ -1,10 +1,10 @@
-use Rattle.std.proofs.Common.{◌∙◌, arith, length-set, rules}
+use Rattle.std.proofs.Common.{◌∙◌, arith, length-set, refl, replicate}
 use Rattle.elimination.specs.View.{graph}
 use Rattle.plan_parts.proofs.Columns.{begins-none, begins-more, start_small}
 use Rattle.plan_parts.proofs.reserve.parts.column_starts.Goals as goal
 
 pub loop-j-init : goal.loop-j-init
-loop-j-init c = (begins-none (graph c.args.pairs.now) c.args.n c.no_starts-starts.result (c.no_starts-starts.ensures 0), search rules)
+loop-j-init c = (begins-none (graph c.args.pairs.now) c.args.n (replicate 513 0) refl, refl)
 
 pub overflow_add-starts : goal.overflow_add-starts
 overflow_add-starts c = omega (arith, c.loop-j.invariant.0 c.loop-j.j (omega arith), start_small (graph c.args.pairs.now) c.args.n c.loop-j.j c.requires (omega arith))
@@ -17,6 +17,3 @@ loop-j-preserved c = (
   begins-more (graph c.args.pairs.now) c.args.n c.loop-j.j c.loop-j.starts c.count_between.result c.args.pairs.now.mirrored (omega arith) c.requires c.loop-j.invariant.1 c.count_between.ensures.value c.loop-j.invariant.0,
   length-set _ _ _ ∙ c.loop-j.invariant.1,
 )
-
-pub returns : goal.returns
-returns c k h = c.loop-j.invariant.0 k (omega arith)
