@@ -1,8 +1,5 @@
 -- The pairs of a sheet rise, and are found by their keys.
-use Rattle.std.proofs.Common.{◌≡◌, ℕ, zero, suc, ◌+◌, ◌-◌, ◌*◌, ◌^◌, ◌<◌, ◌≤◌, true, false, ◌&&◌, ◌||◌, eqb, ltb, List, [], ◌∷◌, length, get_or, Some, None, Option, sym, refl, ap, ◌∙◌, ap₂, subst, ⊎_elim, arith, pow_mono}
-use Rattle.std.proofs.Common.{Ordering, Less, Equal, Greater, nat_cmp}
-use Rattle.std.specs.Ordering.{MatchOrdering, ordering_then}
-use Rattle.std.specs.Cmp.{nat_cmp_is}
+use Rattle.std.proofs.Common.{◌≡◌, ℕ, zero, suc, ◌+◌, ◌-◌, ◌*◌, ◌^◌, ◌<◌, ◌≤◌, true, false, ◌&&◌, ◌||◌, eqb, ltb, List, [], ◌∷◌, length, get_or, Some, None, Option, sym, refl, ap, ◌∙◌, ap₂, ⊎_elim, arith, pow_mono}
 use Rattle.std.proofs.lemmas.List.FromFn.{length-map-range_with_len, get_or-map-range_with_len}
 use Rattle.std.proofs.lemmas.Bool.{cases_lt, cases_eq, eq-eqb, ne_eqb, eqb-true, ltb-true, and_parts, and_from, and_left, and_right, or_left, or_right, or_from, or_cases, false≢true}
 use Rattle.std.proofs.lemmas.Bool.Decides.{nat_tests}
@@ -135,29 +132,3 @@ stands-few bs n m h =
     let h0 = or_else-none (header_fault bs) (body_fault bs (field bs 5 10) (field bs 15 17)) none in
     let says = header-says bs h0.0 in
     (omega (arith, says.0, h.1), omega (arith, says.1, h.1), omega (arith, field_lt bs 15 17, h.2))
-
--- ---- two couplings compared as pairs
-
--- pairs of stations are compared as their keys are
-pub by_keys : (a b c d : ℕ) → b < 512 → d < 512
-    → MatchOrdering (ordering_then (nat_cmp a c) (nat_cmp b d)) (a * 512 + b < c * 512 + d) (a * 512 + b ≡ c * 512 + d) (c * 512 + d < a * 512 + b)
-by_keys a b c d hb hd =
-    let P : Ordering → Type 0 = λ r. MatchOrdering (ordering_then r (nat_cmp b d)) (a * 512 + b < c * 512 + d) (a * 512 + b ≡ c * 512 + d) (c * 512 + d < a * 512 + b) in
-    let Q : Ordering → Type 0 = λ r. MatchOrdering r (a * 512 + b < c * 512 + d) (a * 512 + b ≡ c * 512 + d) (c * 512 + d < a * 512 + b) in
-    ⊎_elim (λ less. subst P (nat_cmp_is a c Less less) (omega (arith, less)))
-    (λ ge. ⊎_elim (λ more. subst P (nat_cmp_is a c Greater more) (omega (arith, more)))
-    (λ le. let same : a ≡ c = omega (arith, ge, le) in
-    subst P (nat_cmp_is a c Equal same)
-    (⊎_elim (λ less. subst Q (nat_cmp_is b d Less less) (omega (arith, same, less)))
-    (λ ge'. ⊎_elim (λ more. subst Q (nat_cmp_is b d Greater more) (omega (arith, same, more)))
-    (λ le'. let alike : b ≡ d = omega (arith, ge', le') in subst Q (nat_cmp_is b d Equal alike) (omega (arith, same, alike)))
-    (cases_lt d b))
-    (cases_lt b d)))
-    (cases_lt c a))
-    (cases_lt a c)
-
--- the coupling k, as it was read, beside the wanted one
-pub beside : (bs : List ℕ) (w k x y a b : ℕ) → w ≤ 9 → b < 512 → x ≡ value_at bs w (2 * k) → y ≡ value_at bs w (2 * k + 1)
-    → MatchOrdering (ordering_then (nat_cmp x a) (nat_cmp y b)) (pair_key bs w k < a * 512 + b) (pair_key bs w k ≡ a * 512 + b) (a * 512 + b < pair_key bs w k)
-unfolding pair_key
-beside bs w k x y a b narrow small ex ey = rw (ex, ey) (by_keys (value_at bs w (2 * k)) (value_at bs w (2 * k + 1)) a b (value-small bs w (2 * k + 1) narrow) small)

@@ -34,10 +34,11 @@ fn window_of(bytes: &[u8], j: usize) -> u32
     ensures small { result < 2 ^ 24 }
     ensures field { result ≡ field bytes.now (8 * j) 24 }
 {
-    let high = byte_or_zero(bytes, j);
-    let middle = byte_or_zero(bytes, j + 1);
-    let low = byte_or_zero(bytes, j + 2);
-    u32::from_be_bytes([0, high, middle, low])
+    // Not by `from_be_bytes`: every question to a sheet comes here, and takes a tenth longer by that.
+    let high = byte_or_zero(bytes, j) as u32;
+    let middle = byte_or_zero(bytes, j + 1) as u32;
+    let low = byte_or_zero(bytes, j + 2) as u32;
+    high * 65536 + middle * 256 + low
 }
 
 // A width of at most 17 is asked for and not a type: each is a constant or a header's, and a type would only wrap those.

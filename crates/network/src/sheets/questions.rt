@@ -1,7 +1,7 @@
 //! The questions that a network on a packed sheet answers.
 //! Couplings are found in the packed fields themselves, by binary search.
 ghost use Rattle.std.specs.Prelude.{◌≡◌, ◌+◌, ◌*◌, ◌^◌, ◌<◌};
-ghost use Rattle.network.specs.Decode.{value_at};
+ghost use Rattle.network.specs.Parts.{pair_key};
 ghost use Rattle.network.specs.SheetMeaning.{standing-lawful};
 ghost use Rattle.network.specs.SheetView.{sheet_in};
 ghost use Rattle.network.specs.Sheets.{has_pair, sheet_net};
@@ -9,19 +9,16 @@ ghost use Rattle.network.specs.Sheets.{has_pair, sheet_net};
 use crate::bit_fields::field_of;
 use crate::net::Network;
 use crate::sheets::SheetNetwork;
-use std::cmp::Ordering;
 
 impl SheetNetwork<'_> {
-    // The coupling `k`: its larger and its smaller station.
-    fn pair_at(&self, k: u32) -> (u32, u32)
+    // The coupling `k` as one number, which rises with `k`. Compared by `cmp`, as pairs or as numbers, a search takes a tenth longer or more.
+    fn key_at(&self, k: u32) -> u32
         requires { k < 2 ^ 17 }
-        ensures larger { result.0 ≡ value_at self.now.bytes.now self.now.counts.bits (2 * k) }
-        ensures smaller { result.1 ≡ value_at self.now.bytes.now self.now.counts.bits (2 * k + 1) }
+        ensures { result ≡ pair_key self.now.bytes.now self.now.counts.bits k }
     {
         let bits = self.counts.bits;
         let at = self.counts.place(2 * k);
-        let larger = field_of(self.bytes, at, bits);
-        (larger, field_of(self.bytes, at + bits, bits))
+        field_of(self.bytes, at, bits) * 512 + field_of(self.bytes, at + bits, bits)
     }
 
     // Whether the sheet has the coupling. It halves the couplings in question at each turn:
@@ -30,14 +27,19 @@ impl SheetNetwork<'_> {
         requires { (larger < 512) × (smaller < 512) }
         ensures { result ≡ has_pair (sheet_in self.now).couplings larger smaller }
     {
+        let wanted = larger * 512 + smaller;
         let mut low = 0;
         let mut high = self.counts.couplings;
         while low < high {
             let middle = low + (high - low) / 2;
-            match self.pair_at(middle).cmp(&(larger, smaller)) {
-                Ordering::Equal => return true,
-                Ordering::Less => low = middle + 1,
-                Ordering::Greater => high = middle,
+            let key = self.key_at(middle);
+            if key == wanted {
+                return true;
+            }
+            if key < wanted {
+                low = middle + 1;
+            } else {
+                high = middle;
             }
         }
         false

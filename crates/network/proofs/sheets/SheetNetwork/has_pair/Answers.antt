@@ -1,25 +1,23 @@
 use Rattle.std.proofs.Common.{◌≡◌, ℕ, ◌+◌, ◌-◌, ◌*◌, ◌/◌, ◌<◌, sym, ap, ◌∙◌, ⊎_elim, arith}
-use Rattle.std.proofs.lemmas.Bool.{cases_lt}
+use Rattle.std.proofs.lemmas.Bool.{cases_lt, cases_eq}
 use Rattle.network.specs.Parts.{pair_key}
-use Rattle.network.proofs.Searches.{key-less-at, has_key, has-no-key, beside}
+use Rattle.network.proofs.Searches.{key-less-at, has_key, has-no-key}
 use Rattle.network.proofs.sheets.SheetNetwork.has_pair.Goals as goal
 
-pub returns-in-Equal : goal.returns-in-Equal
-returns-in-Equal c =
+pub returns-then-key-wanted : goal.returns-then-key-wanted
+returns-then-key-wanted c =
     let s = c.args.self.now in
     let bs = s.bytes.now in
     let k = c.loop-low.low + (c.loop-low.high - c.loop-low.low) / 2 in
-    let found = rw (← c.in-Equal.ensures) at (beside bs s.counts.bits k _ _ c.args.larger c.args.smaller s.counts.narrow c.requires.1 c.pair_at.ensures.larger c.pair_at.ensures.smaller) in
     sym (has_key bs s.counts.stations s.counts.couplings k c.args.larger c.args.smaller (omega arith) (omega arith)
-    (ap (λ (x : ℕ). pair_key bs x k) (sym s.counts.wide) ∙ found))
+    (ap (λ (x : ℕ). pair_key bs x k) (sym s.counts.wide) ∙ (sym c.key_at-key.ensures ∙ c.if-key-wanted.true)))
 
-pub loop-low-preserved-in-Less : goal.loop-low-preserved-in-Less
-loop-low-preserved-in-Less c =
+pub loop-low-preserved-then-key-wanted-2 : goal.loop-low-preserved-then-key-wanted-2
+loop-low-preserved-then-key-wanted-2 c =
     let s = c.args.self.now in
     let bs = s.bytes.now in
     let mid = c.loop-low.low + (c.loop-low.high - c.loop-low.low) / 2 in
-    let below : pair_key bs s.counts.bits mid < c.args.larger * 512 + c.args.smaller =
-    rw (← c.in-Less.ensures) at (beside bs s.counts.bits mid _ _ c.args.larger c.args.smaller s.counts.narrow c.requires.1 c.pair_at.ensures.larger c.pair_at.ensures.smaller) in
+    let below : pair_key bs s.counts.bits mid < c.args.larger * 512 + c.args.smaller = omega (arith, c.key_at-key.ensures) in
     let hm : mid < s.counts.couplings = omega arith in (
       omega arith,
       omega arith,
@@ -36,7 +34,7 @@ loop-low-preserved c =
     let bs = s.bytes.now in
     let mid = c.loop-low.low + (c.loop-low.high - c.loop-low.low) / 2 in
     let above : c.args.larger * 512 + c.args.smaller < pair_key bs s.counts.bits mid =
-    rw (← c.in-Greater.ensures) at (beside bs s.counts.bits mid _ _ c.args.larger c.args.smaller s.counts.narrow c.requires.1 c.pair_at.ensures.larger c.pair_at.ensures.smaller) in (
+    ⊎_elim (λ same. absurd (c.if-key-wanted.false same)) (λ other. omega (arith, c.key_at-key.ensures)) (cases_eq c.key_at-key.result (c.args.larger * 512 + c.args.smaller)) in (
       omega arith,
       omega arith,
       c.loop-low.invariant.2,
