@@ -1,5 +1,5 @@
 -- The stations after one in an order, and the pairs of a graph beyond another.
-use Rattle.std.proofs.Common.{◌≡◌, ℕ, zero, suc, ◌+◌, ◌-◌, ◌<◌, Bool, true, false, cond, not, ◌&&◌, eqb, List, [], ◌∷◌, length, length-drop, get_or, drop, slice_get, sym, refl, ap, ◌∙◌, subst, arith}
+use Rattle.std.proofs.Common.{◌≡◌, ℕ, zero, suc, ◌+◌, ◌-◌, ◌<◌, ◌≤◌, Bool, true, false, cond, not, ◌&&◌, eqb, List, [], ◌∷◌, length, length-drop, get_or, drop, slice_get, sym, refl, ap, ◌∙◌, subst, arith}
 use Rattle.std.proofs.lemmas.List.{get_or-drop}
 use Rattle.std.proofs.lemmas.Bool.{eq-eqb, ne_eqb, cond-true, cond-false, both_ways}
 use Rattle.network.specs.Bits.{count_to}
@@ -37,10 +37,13 @@ unfolding count_to
 count-split f c zero h = refl
 count-split f c (suc n) h = omega (arith, count-split f c n h, split (f n) (c n) (h n))
 
-pub pairs-split : (F C : Graph) (n : ℕ) → Sub C F → pairs_below n (beyond F C) + pairs_below n C ≡ pairs_below n F
+pub pairs_split : (F C : Graph) (n : ℕ) → Sub C F → pairs_below n (beyond F C) + pairs_below n C ≡ pairs_below n F
 unfolding pairs_below
-pairs-split F C zero s = refl
-pairs-split F C (suc n) s = omega (arith, pairs-split F C n s, count-split (F n) (C n) n (s n))
+pairs_split F C zero s = refl
+pairs_split F C (suc n) s = omega (arith, pairs_split F C n s, count-split (F n) (C n) n (s n))
+
+pub pairs_within : (F C : Graph) (n : ℕ) → Sub C F → pairs_below n C ≤ pairs_below n F
+pairs_within F C n s = omega (arith, pairs_split F C n s)
 
 -- ---- what comes after a station of an order
 

@@ -252,3 +252,25 @@ listed_small order k h = (order-of order).only _ (get_or-in (listed order) k h)
 
 pub order-sized : (order : EliminationOrder) (n : ℕ) → order.size ≡ n → Order n (listed order)
 order-sized order n e = subst (λ (m : ℕ). Order m (listed order)) e (order-of order)
+
+-- what is kept for a position is the station there, and what is kept for a station is its position
+module _ (order : EliminationOrder) where
+  pub station_kept : (k : ℕ) → k < order.size → get_or order.stations k 0 ≡ get_or (listed order) k 0
+  station_kept k h = sym (get_or-take order.size order.stations k 0 h)
+
+  pub station_small : (k : ℕ) → k < order.size → get_or order.stations k 0 < order.size
+  station_small k h = let l = listed-length order in subst (λ (a : ℕ). a < order.size) (get_or-take order.size order.stations k 0 h) (listed_small order k (omega arith))
+
+  pub position_kept : (s : ℕ) → s < order.size → get_or order.positions s 0 ≡ position_of (listed order) s
+  position_kept s h =
+      let t = order.placed s h in
+      let l = listed-length order in
+      let k : ℕ = get_or order.positions s 0 in
+      let lt : k < length (listed order) = omega (arith, t.0) in
+      sym (ap (position_of (listed order)) (sym (get_or-take order.size order.stations k 0 t.0 ∙ t.1)) ∙ position_of_station (listed order) k (order-of order).once lt)
+
+  pub position_there : (s : ℕ) → s < order.size → get_or (listed order) (get_or order.positions s 0) 0 ≡ s
+  position_there s h = let t = order.placed s h in get_or-take order.size order.stations _ 0 t.0 ∙ t.1
+
+  pub position_small : (s : ℕ) → s < order.size → get_or order.positions s 0 < order.size
+  position_small s h = (order.placed s h).0

@@ -119,6 +119,13 @@ word-from row from k l hk hl isLow j hj =
     bit_at-and (get_or row k 0) ((2 ^ 64 - 1) - l) j
     ∙ ap₂ (λ x y. x && y) (sym (row_word row k j hk hj)) (bit_at-not 64 l j hl hj ∙ ap not (isLow j hj))
 
+-- the same in a word that has none below `from`
+pub word-past : (row : List ℕ) (from k : ℕ) → k < 8 → from ≤ 64 * k → (j : ℕ) → j < 64 → bit_at (get_or row k 0) j ≡ (in_row row (64 * k + j) && not (ltb (64 * k + j) from))
+word-past row from k hk h j hj =
+    let no : ltb (64 * k + j) from ≡ false = le-ltb (64 * k + j) from (omega arith) in
+    let e = row_word row k j hk hj in
+    grind arith
+
 -- w is the word k without the stations below `from`
 module _ (row : List ℕ) (from k w : ℕ) (isWord : (j : ℕ) → j < 64 → bit_at w j ≡ (in_row row (64 * k + j) && not (ltb (64 * k + j) from))) where
   at-word : (x : ℕ) → 64 * k ≤ x → x < 64 * (k + 1) → (in_row row x && not (ltb x from)) ≡ bit_at w (x % 64)

@@ -28,12 +28,12 @@ fn leave(work: &mut PairSet, v: usize)
     work.isolate(v);
 }
 
-/// The filled pairs of an order of stations with these couplings: the pairs that each station has when it leaves.
-pub fn filled_pairs(couplings: &PairSet, order: &EliminationOrder) -> PairSet
-    requires { Simple order.now.size (graph couplings.now) }
-    ensures { graph result ≡ filled (graph couplings.now) (listed order.now) }
+/// The pairs that each station has when it leaves, kept while all leave in turn. It uses the pairs up.
+fn gather(pairs: PairSet, order: &EliminationOrder) -> PairSet
+    requires { Simple order.now.size (graph pairs) }
+    ensures { graph result ≡ filled (graph pairs) (listed order.now) }
 {
-    let mut work = *couplings;
+    let mut work = pairs;
     let mut gathered = PairSet::empty();
     for station in order.stations() {
         let v = *station as usize;
@@ -41,4 +41,12 @@ pub fn filled_pairs(couplings: &PairSet, order: &EliminationOrder) -> PairSet
         leave(&mut work, v);
     }
     gathered
+}
+
+/// The filled pairs of an order of stations with these couplings: the pairs that each station has when it leaves.
+pub fn filled_pairs(couplings: &PairSet, order: &EliminationOrder) -> PairSet
+    requires { Simple order.now.size (graph couplings.now) }
+    ensures { graph result ≡ filled (graph couplings.now) (listed order.now) }
+{
+    gather(*couplings, order)
 }

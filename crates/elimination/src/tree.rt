@@ -1,6 +1,6 @@
 //! What the elimination tree of an order and its counts are, for any pairs in place of the filled ones.
 //! Functions and no methods of an elimination, since they ask nothing of the couplings. Later neighbours are walked over once.
-ghost use Rattle.std.specs.Prelude.{◌≡◌, ◌<◌, ◌≤◌, find};
+ghost use Rattle.std.specs.Prelude.{◌≡◌, ℕ, ◌<◌, ◌≤◌, if◌then◌else◌, find, length, slice_index};
 ghost use Rattle.elimination.specs.Elimination.{beyond, parent_among, later_neighbour_count, pairs_below};
 ghost use Rattle.elimination.specs.Graphs.{Sub};
 ghost use Rattle.elimination.specs.View.{graph, listed};
@@ -10,12 +10,14 @@ use crate::pair_set::PairSet;
 
 /// The first of some stations that is a neighbour of a given one. It looks at each at most once.
 fn first_neighbour(pairs: &PairSet, station: u16, among: &[u16]) -> Option<u16>
+    requires one { station < 512 }
+    requires known { (k : ℕ) → k < length among.now → slice_index among.now k < 512 }
     ensures { result ≡ find (graph pairs.now station) among.now }
 {
     among
         .iter()
         .copied()
-        .find(|other| pairs.contains(station as usize, *other as usize))
+        .find(|other| pairs.joins(station as usize, *other as usize))
 }
 
 /// The earliest later neighbour of a station, else the last station; the last one has none.
@@ -27,6 +29,15 @@ pub fn parent_in(pairs: &PairSet, order: &EliminationOrder, station: u16) -> Opt
     first_neighbour(pairs, station, later).or(later.last().copied())
 }
 
+/// One where two stations are a pair, else none.
+fn pairing(pairs: &PairSet, station: u16, other: u16) -> u16
+    requires one { station < 512 }
+    requires two { other < 512 }
+    ensures { result ≡ (if graph pairs.now station other then 1 else 0) }
+{
+    u16::from(pairs.joins(station as usize, other as usize))
+}
+
 /// How many later neighbours a station has. It looks at each later station once.
 pub fn later_neighbours(pairs: &PairSet, order: &EliminationOrder, station: u16) -> u16
     requires { station < order.now.size }
@@ -35,11 +46,12 @@ pub fn later_neighbours(pairs: &PairSet, order: &EliminationOrder, station: u16)
     order
         .later(station)
         .iter()
-        .filter(|other| pairs.contains(station as usize, **other as usize))
-        .count() as u16
+        .map(|other| pairing(pairs, station, *other))
+        .sum()
 }
 
 /// How many pairs of stations below `n` are in `pairs` and not in `couplings`, which lie in them: sixteen word steps for each station.
+#[tactic(auto, using(crate::proofs::Afterwards::pairs_split, crate::proofs::Afterwards::pairs_within))]
 pub fn count_beyond(couplings: &PairSet, pairs: &PairSet, n: usize) -> u32
     requires few { n ≤ 512 }
     requires within { Sub (graph couplings.now) (graph pairs.now) }

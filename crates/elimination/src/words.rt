@@ -1,10 +1,17 @@
 //! The words of a set of pairs: 512 rows of eight 64-bit words, row `a` with a bit for each station that is paired with `a`.
 //! All work goes word by word. Rows and words are numbers below 512 and 8: they index fixed memory, and a type for each would be unpacked at once.
-ghost use Rattle.std.specs.Prelude.{◌≡◌, ℕ, ◌+◌, ◌*◌, ◌<◌, ◌≤◌, true, false, ◌||◌, ◌==◌, nat_lt, None, IfSome};
+ghost use Rattle.std.specs.Prelude.{◌≡◌, ℕ, ◌+◌, ◌*◌, ◌/◌, ◌<◌, ◌≤◌, true, false, not, ◌&&◌, ◌||◌, ◌==◌, nat_lt, length, replicate, None, IfSome};
 ghost use Rattle.network.specs.Bits.{bit_at, count_to};
 ghost use Rattle.network.specs.Laws.{FirstIs};
 ghost use Rattle.elimination.specs.Elimination.{pairs_below};
-ghost use Rattle.elimination.specs.Words.{WordFirst, WordNone, WordWithin, between, has_common_within, has, in_row, placed, rows, row_taken, struck, word_count};
+ghost use Rattle.elimination.specs.Words.{WordFirst, WordNone, WordWithin, between, has_common_within, has, in_row, next_of, placed, rows, row_taken, struck, word_count};
+
+/// Words without any pair.
+pub(crate) fn no_pairs() -> [u64; 4096]
+    ensures { result ≡ replicate 4096 0 }
+{
+    [0; 4096]
+}
 
 /// Whether `b` is in row `a`.
 pub(crate) fn holds(words: &[u64; 4096], a: usize, b: usize) -> bool
@@ -48,23 +55,49 @@ fn below(n: usize, k: usize) -> u64
     }
 }
 
-/// The words of row `a`.
+/// The words of row `a`, where they stand.
+fn row_at(words: &[u64; 4096], a: usize) -> &[u64]
+    requires { a < 512 }
+    ensures row { in_row result.now ≡ rows words.now a }
+    ensures long { length result.now ≡ 8 }
+{
+    &words[a * 8..a * 8 + 8]
+}
+
+/// A copy of the words of row `a`.
 pub(crate) fn row_of(words: &[u64; 4096], a: usize) -> [u64; 8]
     requires { a < 512 }
     ensures { in_row result ≡ rows words.now a }
 {
     let mut row = [0; 8];
-    row.copy_from_slice(&words[a * 8..a * 8 + 8]);
+    row.copy_from_slice(row_at(words, a));
     row
 }
 
+/// The word `k` of a row without the stations below `from`. Only the first of the words that are looked at has any.
+fn word_from(row: &[u64], from: usize, k: usize) -> u64
+    requires long { length row.now ≡ 8 }
+    requires word { k < 8 }
+    requires at { from / 64 ≤ k }
+    ensures { (j : ℕ) → j < 64 → bit_at result j ≡ (in_row row.now (64 * k + j) && not (nat_lt (64 * k + j) from)) }
+{
+    let word = row[k];
+    if k == from / 64 {
+        word & !below(from, k)
+    } else {
+        word
+    }
+}
+
 /// The first member of a row not below `from` in the word `k`.
-fn first_of_word(row: &[u64; 8], from: usize, k: usize) -> Option<usize>
-    requires { k < 8 }
+fn first_of_word(row: &[u64], from: usize, k: usize) -> Option<usize>
+    requires long { length row.now ≡ 8 }
+    requires word { k < 8 }
+    requires at { from / 64 ≤ k }
     ensures none { result ≡ None → WordNone row.now from k }
     ensures first { IfSome result (WordFirst row.now from k) }
 {
-    let word = row[k] & !below(from, k);
+    let word = word_from(row, from, k);
     if word == 0 {
         return None;
     }
@@ -72,10 +105,20 @@ fn first_of_word(row: &[u64; 8], from: usize, k: usize) -> Option<usize>
 }
 
 /// The first member of a row not below `from`: at most eight word steps.
-pub(crate) fn first_in(row: &[u64; 8], from: usize) -> Option<usize>
+pub(crate) fn first_in(row: &[u64], from: usize) -> Option<usize>
+    requires { length row.now ≡ 8 }
     ensures { FirstIs (in_row row.now) from 512 result }
 {
     (from / 64..8).find_map(|k| first_of_word(row, from, k))
+}
+
+/// The first station not below `from` in row `a`: at most eight word steps.
+pub(crate) fn next_in(words: &[u64; 4096], a: usize, from: usize) -> Option<usize>
+    requires { a < 512 }
+    ensures value { result ≡ next_of (rows words.now) a from }
+    ensures first { FirstIs (rows words.now a) from 512 result }
+{
+    first_in(row_at(words, a), from)
 }
 
 /// Puts row `v` into row `a`: eight word steps.

@@ -87,6 +87,7 @@ impl EliminationOrder {
     }
 
     /// The station at a position.
+    #[tactic(auto, using(crate::proofs::Listing::station_kept, crate::proofs::Listing::station_small))]
     pub fn station(&self, position: u16) -> u16
         requires { position < self.now.size }
         ensures value { result ≡ slice_index (listed self.now) position }
@@ -115,6 +116,7 @@ impl EliminationOrder {
     }
 
     /// The position of a station.
+    #[tactic(auto, using(crate::proofs::Listing::position_kept, crate::proofs::Listing::position_there, crate::proofs::Listing::position_small))]
     pub fn position(&self, station: u16) -> u16
         requires { station < self.now.size }
         ensures value { result ≡ position_of (listed self.now) station }

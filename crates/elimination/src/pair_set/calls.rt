@@ -10,7 +10,7 @@ ghost use Rattle.elimination.specs.Words.{between, has_common_within, members_of
 use super::joins::join_rows;
 use super::{PairSet, RowMembers};
 use crate::words::{
-    common_within, count_between, count_rows, first_in, holds, place, row_of, strike,
+    common_within, count_between, count_rows, holds, next_in, no_pairs, place, row_of, strike,
 };
 
 // Calls ask for stations below 512: callers hold `station < size` of an order, a fact of two values. A type of numbers below 512 would be made from it at every call, by the same proof.
@@ -19,7 +19,7 @@ impl PairSet {
     pub fn empty() -> PairSet
         ensures { (a b : ℕ) → graph result a b ≡ false }
     {
-        PairSet { words: [0; 4096] }
+        PairSet { words: no_pairs() }
     }
 
     /// Whether two stations form a pair of the set.
@@ -29,6 +29,15 @@ impl PairSet {
         if a >= 512 || b >= 512 {
             return false;
         }
+        self.joins(a, b)
+    }
+
+    /// Whether two known stations form a pair of the set: walks over many stations ask this, which tests no bounds.
+    pub(crate) fn joins(&self, a: usize, b: usize) -> bool
+        requires one { a < 512 }
+        requires two { b < 512 }
+        ensures { result ≡ graph self.now a b }
+    {
         holds(&self.words, a, b)
     }
 
@@ -52,13 +61,13 @@ impl PairSet {
         strike(&mut self.words, b, a);
     }
 
-    /// The first station not below `from` that is paired with `a`: the row's eight words are copied, and looked at until one serves.
+    /// The first station not below `from` that is paired with `a`: at most eight word steps.
     pub fn next(&self, a: usize, from: usize) -> Option<usize>
         requires { a < 512 }
         ensures value { result ≡ next_of (graph self.now) a from }
         ensures first { FirstIs (graph self.now a) from 512 result }
     {
-        first_in(&row_of(&self.words, a), from)
+        next_in(&self.words, a, from)
     }
 
     /// The stations that are paired with `a`, rising, as the set now has them: at most eight word steps for each.
