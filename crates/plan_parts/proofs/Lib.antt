@@ -1,5 +1,6 @@
 pub mod Numbering
 pub mod Columns
+pub mod ColumnSteps
 pub mod Grounds
 pub mod Positions
 pub mod StationPlaces

@@ -59,6 +59,7 @@ impl Plan {
     }
 
     /// Makes a list the plan's order, or says why it is none. It walks the list three times, and makes the filled pairs.
+    #[tactic(auto, using(crate::proofs::Calls::load_on, crate::proofs::Calls::load_off))]
     pub fn load(&mut self, order: &[u16]) -> Result<(), Refusal>
         ensures value { outcome result ≡ unless (order_fault order.now (view self.old).net.size) tt }
         ensures state { view self.new ≡ after_load (view self.old) order.now }
@@ -71,6 +72,7 @@ impl Plan {
     }
 
     /// Leaves an order with no new fill, and such that no order has a fill that is a proper part of its fill.
+    #[tactic(auto, using(crate::proofs::Calls::tight_order, crate::proofs::Calls::tighten_on))]
     pub fn tighten(&mut self)
         ensures tightens { Tightens (view self.old).net (view self.old).order (view self.new).order }
         ensures kept { view self.new ≡ with_order (view self.old) (view self.new).order }

@@ -20,6 +20,7 @@ impl Iterator for Column<'_> {
 
     ghost remaining = { item_count left_in };
 
+    #[tactic(auto, using(crate::proofs::ColumnSteps::left_first, crate::proofs::ColumnSteps::left_none))]
     fn next(&mut self) -> Option<usize> {
         let i = self.reserve.next_in_column(self.column, self.from)?;
         self.from = i + 1;
