@@ -85,7 +85,7 @@ impl Reserve {
         Some(first + 1 + self.pairs.count_between(j, j + 1, i) as usize)
     }
 
-    /// The smallest position not below `from` that has a place in the column: a row of eight words is copied and looked at.
+    /// The smallest position not below `from` that has a place in the column: at most eight word steps.
     pub fn next_in_column(&self, column: usize, from: usize) -> Option<usize>
         ensures value { result ≡ next_of_column (filled_in self.now) (size_in self.now) column from }
         ensures first { FirstIs (has_place (filled_in self.now) (size_in self.now) column) from 512 result }
@@ -99,7 +99,7 @@ impl Reserve {
         self.pairs.next(column, from)
     }
 
-    /// The positions not below `from` that have a place in the column, by rising position: for each a row of eight words is copied and looked at.
+    /// The positions not below `from` that have a place in the column, by rising position: for each at most eight word steps.
     pub fn column(&self, column: usize, from: usize) -> Column<'_>
         ensures reserve { result.reserve.now ≡ self.now }
         ensures column { result.column ≡ column }
